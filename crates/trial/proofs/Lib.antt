@@ -1,0 +1,3 @@
+-- What the proofs of the crates above cite.
+pub mod Bounds
+pub mod Checked

@@ -1,0 +1,8 @@
+-- Laws for the crates above.
+pub mod Push
+pub mod Tables
+pub mod Writes
+pub mod BytesLaws
+pub mod Words
+pub mod Rules
+pub mod Tests

@@ -1,0 +1,5 @@
+-- What the contracts cite.
+pub mod Written
+pub mod Bytes
+pub mod Word
+pub mod Rules
