@@ -1,3 +1,2 @@
 -- What the proofs of the crates above cite.
 pub mod Bounds
-pub mod Checked

@@ -6,7 +6,7 @@ use Prim.Native.Nat.{ℕ, zero, suc, _+_, _-_, _*_, _/_, _%_, _≤_, _<_, min}
 use native.Mathlib.Decide.{decLt}
 use native.Mathlib.Numerals.{add-one}
 use native.Mathlib.Omega.{arith}
-use native.Mathlib.Nat.{mul-lt-mul-of-pos-right, not-suc-le-zero, le-of-suc-le-suc, eq-or-lt-of-le, div-add-mod', div-lt-iff-lt-mul, mod-lt, min-eq-left, min-eq-right, add-zero, add-suc, add-assoc, suc-add, zero-add, mul-one}
+use native.Mathlib.Nat.{mul-lt-mul-of-pos-right, not-suc-le-zero, le-of-suc-le-suc, eq-or-lt-of-le, div-add-mod', div-lt-iff-lt-mul, mod-lt, min-eq-left, min-eq-right, add-zero, add-suc, add-assoc, add-mul, suc-add, zero-add, mul-one}
 use lib.Arith.{digits-lt, digits-mod}
 use lib.ListN.{length, getD, set, take, drop, length-set, length-append, take-append-drop}
 use lib.Seq.{getD-set-same, getD-set-other, ext-getD, set-at, drop-cons, set-append-left, length-take-le, drop-append-seam, append-snoc}
@@ -59,12 +59,17 @@ module _ {A : Type 0} (f : ℕ → A) (out : List A) (start stride : ℕ) where
   written-ext g zero same = refl
   written-ext g (suc n) same = rw (written-ext g n (λ i h. same i (omega arith)), same n (omega arith))
 
--- stores in a row, cut in two
+-- stores cut in two
+pub written-join-by : {A : Type 0} (f : ℕ → A) (out : List A) (start stride a n : ℕ)
+    → written (λ i. f (a + i)) (written f out start stride a) (start + a * stride) stride n ≡ written f out start stride (a + n)
+unfolding written
+written-join-by f out start stride a zero = rw add-zero
+written-join-by f out start stride a (suc n) = simp (written-join-by f out start stride a n, add-suc, add-mul, add-assoc)
+
+-- and stores in a row
 pub written-join-from : {A : Type 0} (f : ℕ → A) (out : List A) (start a n : ℕ)
     → written (λ i. f (a + i)) (written f out start 1 a) (start + a) 1 n ≡ written f out start 1 (a + n)
-unfolding written
-written-join-from f out start a zero = rw add-zero
-written-join-from f out start a (suc n) = simp (written-join-from f out start a n, add-suc, mul-one, add-assoc)
+written-join-from f out start a n = rw mul-one at (written-join-by f out start 1 a n)
 
 pub written-join : {A : Type 0} (f : ℕ → A) (out : List A) (a n : ℕ)
     → written (λ i. f (a + i)) (written f out 0 1 a) a 1 n ≡ written f out 0 1 (a + n)

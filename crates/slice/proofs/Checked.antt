@@ -2,13 +2,15 @@
 -- Assumes nothing.
 use mathlib.Core.Path.{_≡_, refl}
 use mathlib.Core.List.{List, [], _∷_}
-use Prim.Native.Nat.{_*_}
+use Prim.Native.Nat.{ℕ, _*_}
 use lib.IntN.{ℤ, pos, negsuc}
 use Rattle.wrap.specs.Wrap.{modulo}
-use Rattle.lms.specs.Predictor.{above, dot, penaltyOf, predicted}
+use Rattle.lms.specs.Predictor.{above, clamp16, dot, newLms, nextWeight, penaltyOf, predicted, stepped, updated}
 use Rattle.lms.specs.declared.QoaLms.{QoaLms}
 use Rattle.scale.specs.Division.{dividedBy, shifted, signOf}
-use Rattle.scale.specs.Tables.{factorOf, factors, reciprocalOf}
+use Rattle.scale.specs.Tables.{factorOf, factors, reciprocalOf, rowFor, rowOf}
+use Rattle.trial.specs.Trial.{heard, sampleOf}
+use Rattle.slice.specs.Slice.{sampleAt, stateAfter}
 
 -- D1-D3: divide 32767, 32768, -32768 at scale factor 0. D4, D5: divide 1, -1 at 15
 pub D1 : dividedBy (pos 32767) 0 ≡ pos 32767
@@ -47,3 +49,11 @@ one-large = record { history = []; weights = pos 32767 ∷ pos 0 ∷ pos 0 ∷ p
 pub P2 : (penaltyOf one-large ≡ 1792) × (penaltyOf one-large * penaltyOf one-large ≡ 3211264)
 unfolding penaltyOf above dot modulo
 P2 = (refl, refl)
+
+-- S1: the slice FE then seven 00, in a new state, starts -14336, -25568
+abbrev pub first-loud : ℕ
+first-loud = 0xFE00_0000_0000_0000
+
+pub S1 : (sampleAt first-loud newLms 0 ≡ negsuc 14335) × (sampleAt first-loud newLms 1 ≡ negsuc 25567)
+unfolding sampleAt stateAfter heard sampleOf predicted dot modulo clamp16 rowOf rowFor factorOf factors updated nextWeight stepped newLms
+S1 = (refl, refl)

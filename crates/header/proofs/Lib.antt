@@ -1,0 +1,9 @@
+-- What the proofs of this crate and of those above it cite.
+pub mod Fields
+pub mod Told
+pub mod Headers
+pub mod FileHeaders
+pub mod Predictors
+pub mod Parts
+pub mod Lasting
+pub mod CheckedHeaders

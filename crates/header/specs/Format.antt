@@ -1,0 +1,26 @@
+-- The format's numbers and lengths. Assumes nothing.
+use Prim.Native.Nat.{ℕ, _+_, _*_, _/_}
+
+-- the most channels that a frame may have
+abbrev pub maxChannels : ℕ
+maxChannels = 8
+
+-- the highest rate that 24 bits hold
+abbrev pub mostRate : ℕ
+mostRate = 16777215
+
+-- the most bytes of a whole file
+abbrev pub mostBytes : ℕ
+mostBytes = 4294967295
+
+-- ceil(n/20), the slices of each channel
+unfoldable pub slicesOf : ℕ → ℕ
+slicesOf n = (n + 19) / 20
+
+-- where the slices of a frame start: after the header and four history and four weight numbers for each channel
+unfoldable pub stateEnd : ℕ → ℕ
+stateEnd c = 8 + 16 * c
+
+-- 8+16c+8c*ceil(n/20), the bytes of a whole frame
+unfoldable pub frameLength : ℕ → ℕ → ℕ
+frameLength c n = stateEnd c + 8 * (c * slicesOf n)

@@ -1,0 +1,4 @@
+-- What the contracts cite.
+pub mod Slice
+pub mod Channel
+pub mod Groups
