@@ -48,9 +48,13 @@ Stored n w bs p = (i : ℕ) → i < n → getD bs (p + i) 0 ≡ byteOf n w i
 -- there a field of w is read
 pub stored-field : (m n k w : ℕ) (bs : List ℕ) (p : ℕ) → Stored (m + n + k) w bs p → w < 256 ^ (m + n + k) → be n bs (p + m) ≡ field (8 * n) (8 * k) w
 stored-field m n k w bs p stored small =
-    let own : Stored (m + n + k) w (bytesOf (m + n + k) w) 0 = λ i h. rw zero-add (byte-at (m + n + k) w i h) in
-    let same : be n bs (p + m) ≡ be n (bytesOf (m + n + k) w) (0 + m) = be-ext n bs (bytesOf (m + n + k) w) (p + m) (0 + m) (λ i h. rw (add-assoc p m i, add-assoc 0 m i) (stored (m + i) (omega arith) ∙ sym (own (m + i) (omega arith)))) in
-    same ∙ sym (be-field m n k (bytesOf (m + n + k) w) 0 (are-bytes (m + n + k) w)) ∙ ap (λ (v : ℕ). field (8 * n) (8 * k) v) (be-of (m + n + k) w (bytesOf (m + n + k) w) 0 own small)
+    let own = bytesOf (m + n + k) w in
+    let whole : Stored (m + n + k) w own 0 = λ i h. rw zero-add (byte-at (m + n + k) w i h) in
+    let same : (i : ℕ) → i < n → getD bs (p + m + i) 0 ≡ getD own (0 + m + i) 0 =
+    λ i h. rw (add-assoc p m i, add-assoc 0 m i) (stored (m + i) (omega arith) ∙ sym (whole (m + i) (omega arith))) in
+    be-ext n bs own (p + m) (0 + m) same
+    ∙ sym (be-field m n k own 0 (are-bytes (m + n + k) w))
+    ∙ ap (λ (v : ℕ). field (8 * n) (8 * k) v) (be-of (m + n + k) w own 0 whole small)
 
 -- ---- from fields to a word
 

@@ -6,4 +6,3 @@ pub mod FileHeaders
 pub mod Predictors
 pub mod Parts
 pub mod Lasting
-pub mod CheckedHeaders

@@ -78,10 +78,11 @@ read-lengths bs p = (length-table 4 (λ i. signedAt bs (p + 2 * i)), length-tabl
 
 -- ---- four numbers and their word
 
--- the numbers of the word of 8 bytes are the numbers in the bytes
+-- number i has 2i bytes before it and 6 - 2i after it
 four-index : (i : ℕ) → i < 4 → (2 * i + 2 + (6 - 2 * i) ≡ 8) × (8 * (6 - 2 * i) ≡ 48 - 16 * i)
 four-index i h = omega arith
 
+-- the numbers of the word of 8 bytes are the numbers in the bytes
 pub four-of-bytes : (bs : List ℕ) (p : ℕ) → AreBytes bs → fourOf (be64 bs p) ≡ fourAt bs p
 unfolding fourOf
 four-of-bytes bs p bytes =

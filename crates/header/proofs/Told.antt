@@ -6,7 +6,7 @@ use native.Mathlib.Omega.{arith}
 use lib.Dec.{lit<}
 use lib.ListN.{getD}
 use Rattle.word.specs.Rules.{Answer, good, refused, Rule, after}
-use Rattle.word.proofs.Rules.{FiresAt, fires}
+use Rattle.word.proofs.Rules.{FiresAt, fires, good-same}
 use Rattle.header.specs.Refusals.{numberOf, toldChecked}
 use Rattle.header.specs.FileHeader.{toldFile}
 use Rattle.header.specs.Header.{toldHeader}
@@ -66,9 +66,6 @@ module _ {A : Type 0} where
   pub refused-at : (i : ℕ) (l : List Rule) (n : ℕ) (a : Answer A) → FiresAt i l n → after l a ≡ refused n
   refused-at i l n a f = rw (fires i l n f)
 
-  pub good-one : (x y : A) → good x ≡ good y → x ≡ y
-  good-one x y e = cc
-
   pub refused-one : (m n : ℕ) → _≡_ {A = Answer A} (refused m) (refused n) → m ≡ n
   refused-one m n e = cc
 
@@ -82,19 +79,19 @@ told-checked (C.the-variants.Refused r) C.the-variants.Passed e = let z : _≡_ 
 told-checked (C.the-variants.Refused r) (C.the-variants.Refused s) e = ap C.the-variants.Refused (number-one r s (cc))
 
 pub told-file : (a b : F.FileAnswer) → toldFile a ≡ toldFile b → a ≡ b
-told-file (F.the-variants.Total m) (F.the-variants.Total n) e = ap F.the-variants.Total (good-one m n e)
+told-file (F.the-variants.Total m) (F.the-variants.Total n) e = ap F.the-variants.Total (good-same m n e)
 told-file (F.the-variants.Total m) (F.the-variants.Refused s) e = never m (numberOf s) e
 told-file (F.the-variants.Refused r) (F.the-variants.Total n) e = never n (numberOf r) (sym e)
 told-file (F.the-variants.Refused r) (F.the-variants.Refused s) e = ap F.the-variants.Refused (number-one r s (refused-one (numberOf r) (numberOf s) e))
 
 pub told-header : (a b : H.HeaderAnswer) → toldHeader a ≡ toldHeader b → a ≡ b
-told-header (H.the-variants.Good g) (H.the-variants.Good h) e = ap H.the-variants.Good (good-one g h e)
+told-header (H.the-variants.Good g) (H.the-variants.Good h) e = ap H.the-variants.Good (good-same g h e)
 told-header (H.the-variants.Good g) (H.the-variants.Refused s) e = never g (numberOf s) e
 told-header (H.the-variants.Refused r) (H.the-variants.Good h) e = never h (numberOf r) (sym e)
 told-header (H.the-variants.Refused r) (H.the-variants.Refused s) e = ap H.the-variants.Refused (number-one r s (refused-one (numberOf r) (numberOf s) e))
 
 pub told-part : (a b : P.PartAnswer) → toldPart a ≡ toldPart b → a ≡ b
-told-part (P.the-variants.Whole m) (P.the-variants.Whole n) e = ap P.the-variants.Whole (good-one m n e)
+told-part (P.the-variants.Whole m) (P.the-variants.Whole n) e = ap P.the-variants.Whole (good-same m n e)
 told-part (P.the-variants.Whole m) (P.the-variants.Refused s) e = never m (numberOf s) e
 told-part (P.the-variants.Refused r) (P.the-variants.Whole n) e = never n (numberOf r) (sym e)
 told-part (P.the-variants.Refused r) (P.the-variants.Refused s) e = ap P.the-variants.Refused (number-one r s (refused-one (numberOf r) (numberOf s) e))
