@@ -1,0 +1,137 @@
+-- Laws of opening: which rule decides, and the state that is left. Assumes nothing.
+use Prim.Native.Nat.{ℕ, _+_, _-_, _*_, _≤_, _<_}
+use mathlib.Core.Path.{_≡_, refl, sym, ap, _∙_}
+use mathlib.Core.Bool.{false, cond}
+use mathlib.Core.List.{List, [], _∷_, _++_}
+use mathlib.Core.Option.{Option, none, some}
+use native.Mathlib.Omega.{arith}
+use borrow.Author.Tests.{eq-eqb, ne-eqb}
+use lib.Dec.{ltb}
+use lib.IntN.{ℤ}
+use lib.ListN.{length}
+use Rattle.word.specs.Rules.{good, refused, Rule, _gives_, after, firstOf, unless}
+use Rattle.word.specs.Written.{table, written}
+use Rattle.word.proofs.Rules.{after-good, fires, fires-left, fires-right, good-same, none-fires, quiet, quiet-parts}
+use Rattle.word.proofs.Tests.{tests}
+use Rattle.header.specs.FileHeader.{fileHeader, fileRules, isFixed, totalOf}
+use Rattle.header.specs.Format.{maxChannels, stateEnd}
+use Rattle.header.specs.Header.{headerAt, headerRules, leftAt}
+use Rattle.header.specs.Part.{cutRules}
+use Rattle.header.specs.Predictor.{lmsAt}
+use Rattle.header.specs.Refusals.{numberOf}
+use Rattle.header.specs.declared.frame.FrameHeader.{FrameHeader}
+use Rattle.header.specs.declared.refusal.Refusal.{Refusal}
+use Rattle.header.proofs.Headers.{passes}
+use Rattle.header.proofs.Told.{never, refused-one}
+use Rattle.lms.specs.declared.QoaLms.{QoaLms}
+use Rattle.state.specs.View.{factsIn, view}
+use Rattle.state.specs.Opening.{OpenLeaves, firstRules, openRules, openedAt, openedFixed, openedStream, toldOpen, zeroState}
+use Rattle.state.specs.declared.QoaDecoder.{QoaDecoder}
+use Rattle.state.specs.declared.ProcessingMode.the-variants.{FixedSamples}
+use Rattle.state.specs.declared.OpenAnswer.{OpenAnswer}
+use Rattle.state.specs.declared.OpenAnswer.the-variants.{Opened, Refused}
+use Rattle.state.proofs.Views.{stored-lms}
+
+-- a refusal, where the value is good, is the first rule's that fires
+unless-refused : {A : Type 0} (o : Option ℕ) (x : A) (n : ℕ) → unless o (good x) ≡ refused n → o ≡ some n
+unless-refused none x n e = never x n e
+unless-refused {A} (some m) x n e = ap {B = Option ℕ} some (refused-one {A = A} m n e)
+
+pub after-refused : {A : Type 0} (l : List Rule) (x : A) (n : ℕ) → after l (good x) ≡ refused n → firstOf l ≡ some n
+after-refused l x n e = unless-refused (firstOf l) x n e
+
+-- ---- the first frame
+
+module _ (bs : List ℕ) where
+  abbrev first : FrameHeader
+  first = headerAt bs 8
+
+  pub no-first : length bs - 8 < 8 → firstOf (firstRules bs) ≡ some 2
+  no-first h = fires 0 (firstRules bs) 2 (omega (arith, tests))
+
+  long-first : 8 ≤ length bs - 8 → firstOf (firstRules bs) ≡ firstOf (headerRules first ++ cutRules (stateEnd (first .channels)) (leftAt bs 8))
+  long-first h = fires-right ((ltb (leftAt bs 8) 8 gives 2) ∷ []) (headerRules first ++ cutRules (stateEnd (first .channels)) (leftAt bs 8)) (none-fires ((ltb (leftAt bs 8) 8 gives 2) ∷ []) (omega (arith, tests)))
+
+  pub bad-first : (n : ℕ) → 8 ≤ length bs - 8 → firstOf (headerRules first) ≡ some n → firstOf (firstRules bs) ≡ some n
+  bad-first n h e = long-first h ∙ fires-left (headerRules first) (cutRules (stateEnd (first .channels)) (leftAt bs 8)) n e
+
+  checked-first : 8 ≤ length bs - 8 → firstOf (headerRules first) ≡ none → firstOf (firstRules bs) ≡ firstOf (cutRules (stateEnd (first .channels)) (leftAt bs 8))
+  checked-first h e = long-first h ∙ fires-right (headerRules first) (cutRules (stateEnd (first .channels)) (leftAt bs 8)) e
+
+  pub cut-first : 8 ≤ length bs - 8 → firstOf (headerRules first) ≡ none → length bs - 8 < stateEnd (first .channels) → firstOf (firstRules bs) ≡ some 5
+  cut-first h e l = checked-first h e ∙ fires 0 (cutRules (stateEnd (first .channels)) (leftAt bs 8)) 5 (omega (arith, tests))
+
+  pub whole-first : 8 ≤ length bs - 8 → firstOf (headerRules first) ≡ none → stateEnd (first .channels) ≤ length bs - 8 → firstOf (firstRules bs) ≡ none
+  whole-first h e l = checked-first h e ∙ none-fires (cutRules (stateEnd (first .channels)) (leftAt bs 8)) (omega (arith, tests))
+
+  -- what quiet rules say
+  pub first-facts : firstOf (firstRules bs) ≡ none → (first .channels ≤ maxChannels) × (8 + stateEnd (first .channels) ≤ length bs)
+  unfolding stateEnd
+  first-facts e =
+      let q = quiet (firstRules bs) e in
+      let parts = quiet-parts (headerRules first) (cutRules (stateEnd (first .channels)) (leftAt bs 8)) (q .1) in
+      (passes first (parts .0) .few-channels, omega (arith, tests))
+
+  -- ---- the whole call
+
+  pub file-refused : (n : ℕ) → fileHeader bs ≡ refused n → firstOf (openRules bs) ≡ some n
+  unfolding fileHeader openRules
+  file-refused n e = fires-left (fileRules bs) (cond (isFixed (totalOf bs)) (firstRules bs) []) n (after-refused (fileRules bs) (totalOf bs) n e)
+
+  pub file-total : (n : ℕ) → fileHeader bs ≡ good n → totalOf bs ≡ n
+  unfolding fileHeader
+  file-total n e = good-same (totalOf bs) n (after-good (fileRules bs) (good (totalOf bs)) n e .1)
+
+  file-good : (n : ℕ) → fileHeader bs ≡ good n → firstOf (openRules bs) ≡ firstOf (cond (isFixed (totalOf bs)) (firstRules bs) [])
+  unfolding fileHeader openRules
+  file-good n e = fires-right (fileRules bs) (cond (isFixed (totalOf bs)) (firstRules bs) []) (none-fires (fileRules bs) (after-good (fileRules bs) (good (totalOf bs)) n e .0))
+
+  pub stream-rules : fileHeader bs ≡ good 0 → (firstOf (openRules bs) ≡ none) × (openedAt bs ≡ openedStream)
+  unfolding openedAt firstOf
+  stream-rules e =
+      let stream = eq-eqb (totalOf bs) 0 (file-total 0 e) in
+      (file-good 0 e ∙ rw stream, rw stream)
+
+  pub fixed-rules : (n : ℕ) → fileHeader bs ≡ good n → (n ≡ 0 → ⊥) → (firstOf (openRules bs) ≡ firstOf (firstRules bs)) × (openedAt bs ≡ openedFixed bs)
+  unfolding openedAt
+  fixed-rules n e not-zero =
+      let fixed = ne-eqb (totalOf bs) 0 (λ zero. not-zero (sym (file-total n e) ∙ zero)) in
+      (file-good n e ∙ rw fixed, rw fixed)
+
+  -- the view of a state at the first frame's slices
+  pub fixed-view : (total : ℕ) (h : FrameHeader) (states : List QoaLms) (pending : List ℤ) → total ≡ totalOf bs → h ≡ first → h .channels ≤ length states
+      → view (record {
+        mode = FixedSamples total (h .channels) (h .rate);
+        at = 8 + stateEnd (h .channels);
+        frame = factsIn h;
+        remaining = h .samples;
+        next = 0;
+        end = 0;
+        given = false;
+        lms = written (λ j. lmsAt bs (16 + 16 * j)) states 0 1 (h .channels);
+        pending = pending;
+      }) ≡ openedFixed bs
+  unfolding view openedFixed table
+  fixed-view total h states pending e f room =
+      let lms = stored-lms (λ j. lmsAt bs (16 + 16 * j)) states (first .channels) (rw f at room) in
+      rw (e, f) (λ i. record {
+        mode = FixedSamples (totalOf bs) (first .channels) (first .rate);
+        at = 8 + stateEnd (first .channels);
+        frame = factsIn first;
+        remaining = first .samples;
+        next = 0;
+        end = 0;
+        given = false;
+        lms = lms i;
+        pending = [];
+      })
+
+  -- what the contract says
+  abbrev pub Opens : OpenAnswer → QoaDecoder → Type 0
+  Opens a d = (toldOpen a ≡ after (openRules bs) (good tt)) × OpenLeaves (firstOf (openRules bs)) bs d
+
+  pub opens-refused : (r : Refusal) (d : QoaDecoder) → firstOf (openRules bs) ≡ some (numberOf r) → d ≡ zeroState → Opens (Refused r) d
+  opens-refused r d e z = rw e (refl, z)
+
+  pub opens-good : (d : QoaDecoder) → firstOf (openRules bs) ≡ none → view d ≡ openedAt bs → Opens Opened d
+  opens-good d e v = rw e (refl, v)

@@ -1,0 +1,46 @@
+-- Each public contract settles its call: what an answer tells is one-to-one, and any two answers that a contract permits are equal, with states of one view. Assumes nothing.
+use Prim.Native.Nat.{ℕ}
+use mathlib.Core.Path.{_≡_, refl, sym, ap, _∙_}
+use mathlib.Core.Bool.{Bool}
+use mathlib.Core.List.{List}
+use mathlib.Core.Option.{Option, none, some}
+use Rattle.word.specs.Rules.{firstOf}
+use Rattle.header.specs.Refusals.{numberOf}
+use Rattle.word.proofs.Rules.{good-same}
+use Rattle.header.proofs.Told.{never, number-one, refused-one}
+use Rattle.state.specs.View.{view}
+use Rattle.state.specs.States.{goodState}
+use Rattle.state.specs.Opening.{OpenLeaves, openRules, toldOpen}
+use Rattle.state.specs.Facts.{factsAnswer, toldFacts}
+use Rattle.state.specs.declared.QoaDecoder.{QoaDecoder}
+use Rattle.state.specs.declared.OpenAnswer as O
+use Rattle.state.specs.declared.FactsAnswer as F
+use Rattle.state.proofs.Openings.{Opens}
+
+pub told-open : (a b : O.OpenAnswer) → toldOpen a ≡ toldOpen b → a ≡ b
+told-open O.the-variants.Opened O.the-variants.Opened e = refl
+told-open O.the-variants.Opened (O.the-variants.Refused s) e = never tt (numberOf s) e
+told-open (O.the-variants.Refused r) O.the-variants.Opened e = never tt (numberOf r) (sym e)
+told-open (O.the-variants.Refused r) (O.the-variants.Refused s) e = ap O.the-variants.Refused (number-one r s (refused-one (numberOf r) (numberOf s) e))
+
+pub told-facts : (a b : F.FactsAnswer) → toldFacts a ≡ toldFacts b → a ≡ b
+told-facts (F.the-variants.Known f) (F.the-variants.Known g) e = ap F.the-variants.Known (good-same f g e)
+told-facts (F.the-variants.Known f) (F.the-variants.Refused s) e = never f (numberOf s) e
+told-facts (F.the-variants.Refused r) (F.the-variants.Known g) e = never g (numberOf r) (sym e)
+told-facts (F.the-variants.Refused r) (F.the-variants.Refused s) e = ap F.the-variants.Refused (number-one r s (refused-one (numberOf r) (numberOf s) e))
+
+-- is_good
+pub is-good-settled : (d : QoaDecoder) (bytes : ℕ) (r s : Bool) → r ≡ goodState (view d) bytes → s ≡ goodState (view d) bytes → r ≡ s
+is-good-settled d bytes r s p q = p ∙ sym q
+
+-- open_decoder
+leaves-one : (o : Option ℕ) (bs : List ℕ) (d e : QoaDecoder) → OpenLeaves o bs d → OpenLeaves o bs e → view d ≡ view e
+leaves-one none bs d e p q = p ∙ sym q
+leaves-one (some n) bs d e p q = ap view (p ∙ sym q)
+
+pub open-settled : (bs : List ℕ) (a b : O.OpenAnswer) (d e : QoaDecoder) → Opens bs a d → Opens bs b e → (a ≡ b) × (view d ≡ view e)
+open-settled bs a b d e p q = (told-open a b (p .0 ∙ sym (q .0)), leaves-one (firstOf (openRules bs)) bs d e (p .1) (q .1))
+
+-- facts_given
+pub facts-settled : (d : QoaDecoder) (bytes : ℕ) (a b : F.FactsAnswer) → toldFacts a ≡ factsAnswer (view d) bytes → toldFacts b ≡ factsAnswer (view d) bytes → a ≡ b
+facts-settled d bytes a b p q = told-facts a b (p ∙ sym q)

@@ -1,0 +1,90 @@
+-- Opening a decoder. Assumes nothing.
+use Prim.Native.Nat.{ℕ, _+_, _*_}
+use mathlib.Core.Bool.{false, cond}
+use mathlib.Core.List.{List, [], _∷_, _++_}
+use mathlib.Core.Option.{Option, none, some}
+use mathlib.Core.Path.{_≡_}
+use lib.Dec.{ltb}
+use lib.IntN.{pos}
+use lib.ListN.{replicate}
+use Rattle.word.specs.Rules.{Answer, good, refused, Rule, _gives_}
+use Rattle.word.specs.Written.{table}
+use Rattle.lms.specs.declared.QoaLms.{QoaLms}
+use Rattle.header.specs.Format.{maxChannels, stateEnd}
+use Rattle.header.specs.FileHeader.{fileRules, isFixed, totalOf}
+use Rattle.header.specs.Header.{headerAt, headerRules, leftAt}
+use Rattle.header.specs.Part.{cutRules}
+use Rattle.header.specs.Predictor.{lmsAt}
+use Rattle.header.specs.Refusals.{numberOf}
+use Rattle.state.specs.View.{View, view, factsIn}
+use Rattle.state.specs.declared.QoaDecoder.{QoaDecoder}
+use Rattle.state.specs.declared.ProcessingMode.the-variants.{FixedSamples, Streaming}
+use Rattle.state.specs.declared.OpenAnswer.{OpenAnswer}
+use Rattle.state.specs.declared.OpenAnswer.the-variants.{Opened, Refused}
+
+-- the first frame, at byte 8: fewer than 8 bytes are 2; 3, 6; 5 where the predictor state is cut
+abbrev pub firstRules : List ℕ → List Rule
+firstRules bs =
+    (ltb (leftAt bs 8) 8 gives 2)
+    ∷ (headerRules (headerAt bs 8) ++ cutRules (stateEnd (headerAt bs 8 .channels)) (leftAt bs 8))
+
+-- the file header's refusals; in fixed mode the first frame's
+unfoldable pub openRules : List ℕ → List Rule
+openRules bs = fileRules bs ++ cond (isFixed (totalOf bs)) (firstRules bs) []
+
+-- fixed: at the first frame's slices. Streaming: no frame was read
+unfoldable pub openedFixed : List ℕ → View
+openedFixed bs = let h = headerAt bs 8 in record {
+  mode = FixedSamples (totalOf bs) (h .channels) (h .rate);
+  at = 8 + stateEnd (h .channels);
+  frame = factsIn h;
+  remaining = h .samples;
+  next = 0;
+  end = 0;
+  pending = [];
+  given = false;
+  lms = table (h .channels) (λ j. lmsAt bs (16 + 16 * j));
+}
+
+unfoldable pub openedStream : View
+openedStream = record {
+  mode = Streaming;
+  at = 8;
+  frame = record { channels = 0; rate = 0; samples = 0 };
+  remaining = 0;
+  next = 0;
+  end = 0;
+  pending = [];
+  given = false;
+  lms = [];
+}
+
+unfoldable pub openedAt : List ℕ → View
+openedAt bs = cond (isFixed (totalOf bs)) (openedFixed bs) openedStream
+
+-- the state of a refusal: all zero
+abbrev pub zeroLms : QoaLms
+zeroLms = record { history = replicate 4 (pos 0); weights = replicate 4 (pos 0) }
+
+unfoldable pub zeroState : QoaDecoder
+zeroState = record {
+  mode = Streaming;
+  at = 0;
+  frame = record { channels = 0; rate = 0; samples = 0 };
+  remaining = 0;
+  next = 0;
+  end = 0;
+  given = false;
+  lms = replicate maxChannels zeroLms;
+  pending = replicate (20 * maxChannels) (pos 0);
+}
+
+-- the state that is handed back
+abbrev pub OpenLeaves : Option ℕ → List ℕ → QoaDecoder → Type 0
+OpenLeaves none bs d = view d ≡ openedAt bs
+OpenLeaves (some n) bs d = d ≡ zeroState
+
+-- what the code's answer tells
+abbrev pub toldOpen : OpenAnswer → Answer (Unit {0})
+toldOpen Opened = good tt
+toldOpen (Refused r) = refused (numberOf r)

@@ -1,0 +1,58 @@
+-- The state rules of a decoder, for an input of so many bytes. Assumes nothing.
+use Prim.Native.Nat.{ℕ, zero, suc, _+_, _-_, _*_}
+use mathlib.Core.Bool.{Bool, true, _&&_, _||_}
+use mathlib.Core.List.{List}
+use lib.Dec.{eqb, leb, ltb}
+use lib.IntN.{natAbs}
+use lib.ListN.{length}
+use lib.Signed.{mag}
+use Rattle.lms.specs.Predictor.{at}
+use Rattle.lms.specs.declared.QoaLms.{QoaLms}
+use Rattle.header.specs.Format.{maxChannels, mostRate, slicesOf}
+use Rattle.header.specs.Predictor.{lmsOf}
+use Rattle.state.specs.View.{View, channelsOf}
+use Rattle.state.specs.declared.ProcessingMode.{ProcessingMode}
+use Rattle.state.specs.declared.ProcessingMode.the-variants.{FixedSamples, Streaming}
+
+-- in fixed mode a total of at least 1 with the first frame's c 1..8 and rate 1..16777215
+unfoldable pub modeRule : ProcessingMode → Bool
+modeRule (FixedSamples total c rate) = leb 1 total && (leb 1 c && (leb c maxChannels && (leb 1 rate && leb rate mostRate)))
+modeRule Streaming = true
+
+-- c at least 1 where samples remain
+unfoldable pub someChannels : ℕ → ℕ → Bool
+someChannels c remaining = leb 1 c || eqb remaining 0
+
+-- of each index below a number
+unfoldable pub below : ℕ → (ℕ → Bool) → Bool
+below zero p = true
+below (suc n) p = below n p && p n
+
+-- histories in 16 bits
+unfoldable pub historyRule : QoaLms → Bool
+historyRule lms = below (length (lms .history)) (λ i. ltb (mag (at (lms .history) i)) 32768)
+
+-- weights at most a bound in magnitude
+unfoldable pub weightRule : ℕ → QoaLms → Bool
+weightRule bound lms = below (length (lms .weights)) (λ i. leb (natAbs (at (lms .weights) i)) bound)
+
+-- 32768 + 17920(3277 - ceil(r/20)), where r samples per channel remain
+unfoldable pub weightBound : ℕ → ℕ
+weightBound r = 32768 + 17920 * (3277 - slicesOf r)
+
+-- used histories in 16 bits, used weights within the bound
+unfoldable pub lmsRule : ℕ → ℕ → List QoaLms → Bool
+lmsRule c bound states = below c (λ j. historyRule (lmsOf states j) && weightRule bound (lmsOf states j))
+
+-- all of them, in 01's order: place at most the byte count; the mode's; c at most 8; c at least 1 where samples remain; remaining at most n;
+-- next <= end <= 20c; the predictors'
+unfoldable pub goodState : View → ℕ → Bool
+goodState v bytes =
+    leb (v .at) bytes
+    && (modeRule (v .mode)
+    && (leb (channelsOf v) maxChannels
+    && (someChannels (channelsOf v) (v .remaining)
+    && (leb (v .remaining) (v .frame .samples)
+    && (leb (v .next) (v .end)
+    && (leb (v .end) (20 * channelsOf v)
+    && lmsRule (channelsOf v) (weightBound (v .remaining)) (v .lms)))))))

@@ -1,0 +1,58 @@
+-- What a decoder's state means: pending entries outside next..end and unused channels are left out. Assumes nothing.
+use Prim.Native.Nat.{ℕ, _+_, _-_, _*_}
+use mathlib.Core.Bool.{Bool}
+use mathlib.Core.List.{List}
+use lib.IntN.{ℤ, pos}
+use lib.ListN.{getD}
+use Rattle.word.specs.Written.{table}
+use Rattle.lms.specs.declared.QoaLms.{QoaLms}
+use Rattle.header.specs.Predictor.{lmsOf}
+use Rattle.state.specs.declared.ProcessingMode.{ProcessingMode}
+use Rattle.state.specs.declared.FrameFacts.{FrameFacts}
+use Rattle.state.specs.declared.QoaDecoder.{QoaDecoder}
+use Rattle.header.specs.declared.frame.FrameHeader.{FrameHeader}
+
+pub record View : Type 0 where
+  pub mode : ProcessingMode
+  -- the place
+  pub at : ℕ
+  -- the current frame, and the samples per channel that remain of it
+  pub frame : FrameFacts
+  pub remaining : ℕ
+  -- the range of the pending samples, and those samples
+  pub next : ℕ
+  pub end : ℕ
+  pub pending : List ℤ
+  -- whether the first header was given
+  pub given : Bool
+  -- the predictors of the used channels
+  pub lms : List QoaLms
+
+unfoldable pub view : QoaDecoder → View
+view d = record {
+  mode = d .mode;
+  at = d .at;
+  frame = d .frame;
+  remaining = d .remaining;
+  next = d .next;
+  end = d .end;
+  pending = table (d .end - d .next) (λ i. getD (d .pending) (d .next + i) (pos 0));
+  given = d .given;
+  lms = table (d .frame .channels) (lmsOf (d .lms));
+}
+
+-- ---- what is left of the current frame
+
+abbrev pub channelsOf : View → ℕ
+channelsOf v = v .frame .channels
+
+-- how many samples are pending, and how many there are with those to come
+abbrev pub waiting : View → ℕ
+waiting v = v .end - v .next
+
+abbrev pub total : View → ℕ
+total v = waiting v + v .remaining * channelsOf v
+
+-- what is told of a frame by its header
+abbrev pub factsIn : FrameHeader → FrameFacts
+factsIn h = record { channels = h .channels; rate = h .rate; samples = h .samples }

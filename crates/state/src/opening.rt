@@ -1,0 +1,172 @@
+// Opening a decoder.
+ghost use mathlib.Core.Path.{_≡_};
+ghost use Prim.Native.Nat.{_+_, _*_, _≤_};
+ghost use lib.ListN.{length};
+ghost use Rattle.word.specs.Rules.{after, firstOf, good};
+ghost use Rattle.word.specs.Written.{written};
+ghost use Rattle.header.specs.FileHeader.{totalOf};
+ghost use Rattle.header.specs.Format.{maxChannels, stateEnd};
+ghost use Rattle.header.specs.Header.{headerAt, toldHeader};
+ghost use Rattle.header.specs.Predictor.{lmsAt};
+ghost use Rattle.state.specs.View.{factsIn, view};
+ghost use Rattle.state.specs.declared.OpenAnswer.the-variants.{Refused};
+ghost use Rattle.state.specs.Opening.{OpenLeaves, firstRules, openRules, openedFixed, openedStream, toldOpen, zeroState};
+use crate::FrameFacts;
+use crate::OpenAnswer;
+use crate::OpenedDecoder;
+use crate::PENDING;
+use crate::ProcessingMode;
+use crate::QoaDecoder;
+use header::file::FileAnswer;
+use header::frame::FrameHeader;
+use header::frame::HeaderAnswer;
+use header::frame::QOA_HEADER_SIZE;
+use header::frame::QOA_LMS_LEN;
+use header::frame::QOA_MAX_CHANNELS;
+use header::refusal::Checked;
+use header::refusal::Refusal;
+use lms::QoaLms;
+
+// The predictor states of so many channels, read from a place on and stored over the first of `states`.
+pub fn read_states(
+    bytes: &[u8],
+    at: usize,
+    channels: usize,
+    states: [QoaLms; QOA_MAX_CHANNELS],
+) -> [QoaLms; QOA_MAX_CHANNELS]
+    requires { ⌜ (channels ≤ maxChannels) × (at + 16 * channels ≤ length (now bytes)) ⌝ }
+    ensures { λ r. ⌜ r ≡ written (λ j. lmsAt (now (bytes .entry)) (at + 16 * j)) states 0 1 channels ⌝ }
+{
+    let mut all = states;
+    for j in 0..channels {
+        let lms = header::read_lms(bytes, at + 16 * j);
+        all[j] = lms;
+    }
+    all
+}
+
+// What is told of a frame by its header.
+pub fn frame_facts(h: FrameHeader) -> FrameFacts
+    ensures { λ r. ⌜ r ≡ factsIn h ⌝ }
+{
+    FrameFacts {
+        channels: h.channels,
+        rate: h.rate,
+        samples: h.samples,
+    }
+}
+
+// The state of a refusal.
+fn zero_state() -> QoaDecoder
+    ensures { λ r. ⌜ r ≡ zeroState ⌝ }
+{
+    let lms = QoaLms {
+        history: [0; QOA_LMS_LEN],
+        weights: [0; QOA_LMS_LEN],
+    };
+    QoaDecoder {
+        mode: ProcessingMode::Streaming,
+        at: 0,
+        frame: FrameFacts {
+            channels: 0,
+            rate: 0,
+            samples: 0,
+        },
+        remaining: 0,
+        next: 0,
+        end: 0,
+        given: false,
+        lms: [lms; QOA_MAX_CHANNELS],
+        pending: [0; PENDING],
+    }
+}
+
+// A stream before its first frame.
+fn stream_state() -> QoaDecoder
+    ensures { λ r. ⌜ view r ≡ openedStream ⌝ }
+{
+    let mut state = zero_state();
+    state.at = QOA_HEADER_SIZE;
+    state
+}
+
+// The header of the first frame, whose predictor state is whole.
+fn first_frame(bytes: &[u8]) -> HeaderAnswer
+    ensures { λ r. ⌜ toldHeader r ≡ after (firstRules (now (bytes .entry))) (good (headerAt (now (bytes .entry)) 8)) ⌝ }
+{
+    let left = header::bytes_left(bytes, QOA_HEADER_SIZE);
+    if left < QOA_HEADER_SIZE {
+        return HeaderAnswer::Refused(Refusal::NoSamples);
+    }
+    let h = header::read_header(bytes, QOA_HEADER_SIZE);
+    match header::check_header(h) {
+        Checked::Refused(r) => HeaderAnswer::Refused(r),
+        Checked::Passed => {
+            if left < header::state_end(h.channels as usize) {
+                HeaderAnswer::Refused(Refusal::Truncated)
+            } else {
+                HeaderAnswer::Good(h)
+            }
+        }
+    }
+}
+
+// A fixed file at its first frame's slices.
+fn fixed_state(bytes: &[u8], total: u32, h: FrameHeader) -> QoaDecoder
+    requires { ⌜ (total ≡ totalOf (now bytes)) × (h ≡ headerAt (now bytes) 8) × (h .channels ≤ maxChannels) × (8 + stateEnd (h .channels) ≤ length (now bytes)) ⌝ }
+    ensures { λ r. ⌜ view r ≡ openedFixed (now (bytes .entry)) ⌝ }
+{
+    let zero = zero_state();
+    let states = zero.lms;
+    let pending = zero.pending;
+    let channels = h.channels as usize;
+    let lms = read_states(bytes, 2 * QOA_HEADER_SIZE, channels, states);
+    QoaDecoder {
+        mode: ProcessingMode::FixedSamples {
+            samples: total,
+            channels: h.channels,
+            rate: h.rate,
+        },
+        at: QOA_HEADER_SIZE + header::state_end(channels),
+        frame: frame_facts(h),
+        remaining: h.samples,
+        next: 0,
+        end: 0,
+        given: false,
+        lms,
+        pending,
+    }
+}
+
+fn refused_open(refusal: Refusal) -> OpenedDecoder
+    ensures { λ r. ⌜ (r .answer ≡ Refused refusal) × (r .state ≡ zeroState) ⌝ }
+{
+    OpenedDecoder {
+        answer: OpenAnswer::Refused(refusal),
+        state: zero_state(),
+    }
+}
+
+// A decoder at the start of a file.
+pub fn open_decoder(bytes: &[u8]) -> OpenedDecoder
+    ensures { λ r. ⌜ (toldOpen (r .answer) ≡ after (openRules (now (bytes .entry))) (good tt)) × OpenLeaves (firstOf (openRules (now (bytes .entry)))) (now (bytes .entry)) (r .state) ⌝ }
+{
+    match header::file_header(bytes) {
+        FileAnswer::Refused(r) => refused_open(r),
+        FileAnswer::Total(total) => {
+            if total == 0 {
+                return OpenedDecoder {
+                    answer: OpenAnswer::Opened,
+                    state: stream_state(),
+                };
+            }
+            match first_frame(bytes) {
+                HeaderAnswer::Refused(r) => refused_open(r),
+                HeaderAnswer::Good(h) => OpenedDecoder {
+                    answer: OpenAnswer::Opened,
+                    state: fixed_state(bytes, total, h),
+                },
+            }
+        }
+    }
+}

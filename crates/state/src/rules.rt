@@ -1,0 +1,157 @@
+// The state rules of a decoder, each checked on its own.
+ghost use mathlib.Core.Path.{_≡_};
+ghost use mathlib.Core.Bool.{_&&_};
+ghost use Prim.Native.Nat.{_≤_, _*_};
+ghost use lib.Dec.{leb, ltb};
+ghost use lib.Signed.{mag};
+ghost use Rattle.header.specs.Format.{maxChannels};
+ghost use Rattle.state.specs.View.{view};
+ghost use Rattle.state.specs.States.{modeRule, someChannels, historyRule, weightRule, weightBound, lmsRule, goodState};
+use crate::FrameFacts;
+use crate::ProcessingMode;
+use crate::QoaDecoder;
+use header::frame::QOA_LMS_LEN;
+use header::frame::QOA_MAX_CHANNELS;
+use header::frame::QOA_SLICE_LEN;
+use lms::QoaLms;
+
+// The highest rate that 24 bits hold.
+const QOA_MOST_RATE: u32 = 16777215;
+
+// In fixed mode a total of at least 1, with the first frame's channels and rate in range.
+fn is_good_mode(mode: ProcessingMode) -> bool
+    ensures { λ r. ⌜ r ≡ modeRule mode ⌝ }
+{
+    match mode {
+        ProcessingMode::Streaming => true,
+        ProcessingMode::FixedSamples {
+            samples,
+            channels,
+            rate,
+        } => {
+            if samples == 0 {
+                return false;
+            }
+            if channels == 0 {
+                return false;
+            }
+            if QOA_MAX_CHANNELS < channels as usize {
+                return false;
+            }
+            if rate == 0 {
+                return false;
+            }
+            rate <= QOA_MOST_RATE
+        }
+    }
+}
+
+// Channels may be 0 only where no sample remains.
+fn has_channels(channels: u8, remaining: u16) -> bool
+    ensures { λ r. ⌜ r ≡ someChannels channels remaining ⌝ }
+{
+    if channels == 0 { remaining == 0 } else { true }
+}
+
+// The current frame's channels, and what remains of its samples.
+fn is_good_frame(frame: FrameFacts, remaining: u16) -> bool
+    ensures { λ r. ⌜ r ≡ (leb (frame .channels) maxChannels && (someChannels (frame .channels) remaining && leb remaining (frame .samples))) ⌝ }
+{
+    if QOA_MAX_CHANNELS < frame.channels as usize {
+        return false;
+    }
+    if !has_channels(frame.channels, remaining) {
+        return false;
+    }
+    remaining <= frame.samples
+}
+
+// The pending samples lie within one slice of every channel.
+fn is_good_range(next: usize, end: usize, channels: u8) -> bool
+    ensures { λ r. ⌜ r ≡ (leb next end && leb end (20 * channels)) ⌝ }
+{
+    if end < next {
+        return false;
+    }
+    end <= QOA_SLICE_LEN * (channels as usize)
+}
+
+// A number of 16 bits.
+fn is_short(x: i32) -> bool
+    ensures { λ r. ⌜ r ≡ ltb (mag x) 32768 ⌝ }
+{
+    if x < -32768 { false } else { x <= 32767 }
+}
+
+// Histories in 16 bits.
+fn is_good_history(lms: QoaLms) -> bool
+    ensures { λ r. ⌜ r ≡ historyRule lms ⌝ }
+{
+    let history = lms.history;
+    for i in 0..QOA_LMS_LEN {
+        if !is_short(history[i]) {
+            return false;
+        }
+    }
+    true
+}
+
+// Weights at most `bound` in magnitude.
+fn are_good_weights(lms: QoaLms, bound: u32) -> bool
+    ensures { λ r. ⌜ r ≡ weightRule bound lms ⌝ }
+{
+    let weights = lms.weights;
+    for i in 0..QOA_LMS_LEN {
+        if bound < wrap::magnitude(weights[i]) {
+            return false;
+        }
+    }
+    true
+}
+
+// The largest magnitude of a weight where so many samples per channel remain.
+fn weight_bound(remaining: u16) -> u32
+    ensures { λ r. ⌜ r ≡ weightBound remaining ⌝ }
+{
+    let slices = header::slices_of(remaining as usize) as u32;
+    32768 + 17920 * (3277 - slices)
+}
+
+// The predictors of the used channels.
+fn are_good_states(states: [QoaLms; QOA_MAX_CHANNELS], channels: usize, bound: u32) -> bool
+    requires { ⌜ channels ≤ maxChannels ⌝ }
+    ensures { λ r. ⌜ r ≡ lmsRule channels bound states ⌝ }
+{
+    for j in 0..channels {
+        let lms = states[j];
+        if !is_good_history(lms) {
+            return false;
+        }
+        if !are_good_weights(lms, bound) {
+            return false;
+        }
+    }
+    true
+}
+
+// All of the state rules, for an input of so many bytes.
+pub fn is_good(d: QoaDecoder, bytes: usize) -> bool
+    ensures { λ r. ⌜ r ≡ goodState (view d) bytes ⌝ }
+{
+    if bytes < d.at {
+        return false;
+    }
+    let mode = d.mode;
+    if !is_good_mode(mode) {
+        return false;
+    }
+    let frame = d.frame;
+    if !is_good_frame(frame, d.remaining) {
+        return false;
+    }
+    if !is_good_range(d.next, d.end, frame.channels) {
+        return false;
+    }
+    let states = d.lms;
+    are_good_states(states, frame.channels as usize, weight_bound(d.remaining))
+}
