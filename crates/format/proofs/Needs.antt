@@ -1,0 +1,51 @@
+-- How many samples: n for each channel of a frame, so that the need of a file is told by its headers. Assumes nothing.
+use Prim.Native.Nat.{ℕ, _+_, _*_, _≤_}
+use mathlib.Core.Path.{_≡_, refl, ap, _∙_}
+use mathlib.Core.List.{List, [], _∷_, flatMap}
+use native.Mathlib.Nat.{mul-le-mul-right}
+use native.Mathlib.Omega.{arith}
+use lib.ListN.{length, length-append}
+use Rattle.word.proofs.Tables.{length-table}
+use Rattle.header.specs.Format.{frameLength, slicesOf}
+use Rattle.header.specs.Header.{headerAt}
+use Rattle.header.specs.Part.{lengthOf}
+use Rattle.header.specs.Grammar.{Cut, Each, joined}
+use Rattle.header.specs.declared.frame.FrameHeader.{FrameHeader}
+use Rattle.format.specs.Frame.{frameSamples}
+use Rattle.format.specs.Walk.{samplesOf}
+use Rattle.format.specs.Reader.{audioOf}
+
+-- a frame's, by its header
+abbrev pub countOf : FrameHeader → ℕ
+countOf h = h .samples * h .channels
+
+pub frame-need : (f : List ℕ) → length (frameSamples f) ≡ countOf (headerAt f 0)
+unfolding frameSamples
+frame-need f = length-table (countOf (headerAt f 0)) _
+
+-- over all frames
+abbrev pub needOf : List (List ℕ) → ℕ
+needOf [] = 0
+needOf (f ∷ fs) = countOf (headerAt f 0) + needOf fs
+
+pub frames-need : (fs : List (List ℕ)) → length (samplesOf fs) ≡ needOf fs
+unfolding flatMap
+frames-need [] = refl
+frames-need (f ∷ fs) = omega (arith, length-append (frameSamples f) (samplesOf fs), frame-need f, frames-need fs)
+
+pub file-need : (k : Cut) → length (audioOf k .samples) ≡ needOf (k .first ∷ k .others)
+unfolding audioOf
+file-need k = frames-need (k .first ∷ k .others)
+
+-- a frame has at most three samples for each of its bytes,
+pub count-small : (h : FrameHeader) → countOf h ≤ 3 * lengthOf h
+unfolding frameLength slicesOf
+count-small h =
+    let groups : h .samples ≤ 20 * slicesOf (h .samples) = omega arith in
+    omega (arith, mul-le-mul-right (h .channels) groups)
+
+-- and so have frames that are whole
+pub need-small : (fs : List (List ℕ)) (tail : List ℕ) → Each (λ f. length f ≡ lengthOf (headerAt f 0)) fs → needOf fs ≤ 3 * length (joined fs tail)
+need-small [] tail whole = omega arith
+need-small (f ∷ fs) tail whole =
+    omega (arith, length-append f (joined fs tail), count-small (headerAt f 0), need-small fs tail (whole .1), whole .0)

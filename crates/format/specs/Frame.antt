@@ -1,0 +1,18 @@
+-- The samples of a frame, from the frame's bytes. Assumes nothing.
+use Prim.Native.Nat.{ℕ, _+_, _*_}
+use mathlib.Core.List.{List}
+use lib.IntN.{ℤ}
+use Rattle.word.specs.Written.{table}
+use Rattle.lms.specs.declared.QoaLms.{QoaLms}
+use Rattle.header.specs.Format.{stateEnd}
+use Rattle.header.specs.Header.{headerAt}
+use Rattle.header.specs.Predictor.{lmsAt}
+use Rattle.slice.specs.Groups.{groupsAt}
+
+-- the predictor that the frame states for each channel
+unfoldable pub frameStates : List ℕ → List QoaLms
+frameStates f = table (headerAt f 0 .channels) (λ j. lmsAt f (8 + 16 * j))
+
+-- n samples of each channel, interleaved
+unfoldable pub frameSamples : List ℕ → List ℤ
+frameSamples f = let h = headerAt f 0 in table (h .samples * h .channels) (groupsAt f (stateEnd (h .channels)) (h .channels) (frameStates f))

@@ -1,0 +1,88 @@
+-- `whole::held::decode_frame` meets its contract. Assumes nothing.
+use borrow.Author.Needs.{needs}
+use mathlib.Core.List.{List, _++_}
+use Prim.Native.Nat.{ℕ, _+_, _*_, _≤_}
+use mathlib.Core.Path.{_≡_, sym, ap, _∙_}
+use native.Mathlib.Omega.{arith}
+use denote.Ref.{now}
+use lib.Dec.{lit≤}
+use lib.IntN.{ℤ}
+use lib.ListN.{length, take, drop, length-drop}
+use Rattle.lms.proofs.Bounds.{within-more}
+use Rattle.word.specs.Written.{written}
+use Rattle.word.proofs.Writes.{written-list}
+use Rattle.header.specs.Format.{frameLength, stateEnd}
+use Rattle.header.proofs.Headers.{frame-long}
+use Rattle.slice.specs.Groups.{groupsAt}
+use Rattle.format.proofs.Places.{frame-here, states-within}
+use Rattle.whole.proofs.held.decode_frame.Statement.{statement}
+use Rattle.whole.proofs.held.decode_frame.Tie as tie
+
+cast-channels : tie.Need-cast-channels
+cast-channels c = search needs
+
+cast-samples : tie.Need-cast-samples
+cast-samples c = search needs
+
+read-states-requires : tie.Need-read-states-requires
+read-states-requires c κs =
+    let h = c .before .before .before .args .h in
+    omega (arith, frame-long (h .channels) (h .samples))
+
+state-end-requires : tie.Need-state-end-requires
+state-end-requires c κs = search needs
+
+add-place : tie.Need-add-place
+add-place c =
+    let h = c .before .before .before .before .before .args .h in
+    omega (arith, frame-long (h .channels) (h .samples))
+
+decode-groups-requires : tie.Need-decode-groups-requires
+unfolding frameLength
+decode-groups-requires c κs =
+    let start = c .before .before .before .before .before .before in
+    let h = start .args .h in
+    let known = c .before .before .before .before .before .shared-slice-known in (
+      start .pre .0,
+      (
+        omega arith,
+        (
+          omega arith,
+          (
+            start .pre .1 .1,
+            λ j l. within-more (lit≤ tt) (states-within _ _ (h .channels) (c .before .before .read-states .result) (λ i. known .given i .fits) (c .before .before .read-states .ensures) j l),
+          ),
+        ),
+      ),
+    )
+
+same-length : tie.Need-same-length
+same-length c = search needs
+
+returns : tie.Need-returns
+returns c =
+    let start = c .before .before .before .before .before .before .before .before in
+    let h = start .args .h in
+    let b = now (start .args .bytes) in
+    let out = now (start .args .out) in
+    let n = start .args .start + h .samples * h .channels in
+    let samples = groupsAt b (start .args .at + stateEnd (h .channels)) (h .channels) (c .before .before .before .before .read-states .result) in
+    let place : start .args .at + c .before .before .before .state-end .result ≡ start .args .at + stateEnd (h .channels) = ap (λ (k : ℕ). start .args .at + k) (c .before .before .before .state-end .ensures) in
+    let heard = frame-here b (start .args .at) h (c .before .before .before .before .read-states .result) (c .before .before .before .before .read-states .ensures) (sym (start .pre .1 .0 .0)) (omega (arith, length-drop (start .args .at) b, start .pre .1)) in
+    c .before .decode-groups .ensures .1
+    ∙ ap (λ (p : ℕ). written (groupsAt b p (h .channels) (c .before .before .before .before .read-states .result)) out (start .args .start) 1 (h .samples * h .channels)) place
+    ∙ written-list samples out (start .args .start) (h .samples * h .channels) (start .pre .1 .1)
+    ∙ ap (λ (xs : List ℤ). take (start .args .start) out ++ (xs ++ drop n out)) (sym heard)
+
+pub decode-frame-spec : {M : Type 1} → statement M
+decode-frame-spec =
+    tie.close
+    (tie.spec
+    cast-channels
+    cast-samples
+    read-states-requires
+    state-end-requires
+    add-place
+    decode-groups-requires
+    same-length
+    returns)

@@ -1,0 +1,4 @@
+-- What the contracts cite: the public calls' first, then those of their parts.
+pub mod Told
+pub mod Survey
+pub mod Held

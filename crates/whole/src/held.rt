@@ -1,0 +1,69 @@
+// Decoding frames that a survey has passed: there is nothing left to refuse.
+ghost use mathlib.Core.Path.{_≡_};
+ghost use mathlib.Core.List.{_++_};
+ghost use Prim.Native.Nat.{_+_, _*_, _≤_, _<_};
+ghost use lib.ListN.{length, take, drop};
+ghost use Rattle.scale.specs.Tables.{dequantTab};
+ghost use Rattle.header.specs.Format.{maxChannels, stateEnd};
+ghost use Rattle.header.specs.Header.{headerAt};
+ghost use Rattle.header.specs.Part.{lengthOf};
+ghost use Rattle.format.specs.Frame.{frameSamples};
+ghost use Rattle.format.specs.Walk.{frameAt};
+ghost use Rattle.format.proofs.Places.{StatesAt};
+ghost use Rattle.whole.specs.Told.{kept};
+ghost use Rattle.whole.specs.Held.{HasRoom, held};
+use crate::survey::sample_count;
+use header::frame::FrameHeader;
+use header::frame::QOA_HEADER_SIZE;
+use header::frame::QOA_MAX_CHANNELS;
+use lms::QoaLms;
+
+// The predictor states of the frame at a place.
+fn read_states(bytes: &[u8], at: usize, channels: usize) -> [QoaLms; QOA_MAX_CHANNELS]
+    requires { ⌜ (channels ≤ maxChannels) × (at + stateEnd channels ≤ length (now bytes)) ⌝ }
+    ensures { λ r. ⌜ StatesAt (now (bytes .entry)) at channels r ⌝ }
+{
+    let mut states = [lms::new_lms(); QOA_MAX_CHANNELS];
+    for j in 0..channels {
+        let state = header::read_lms(bytes, at + (QOA_HEADER_SIZE + 16 * j));
+        states[j] = state;
+    }
+    states
+}
+
+// The frame at a place, its samples stored from `start` on.
+fn decode_frame(
+    tab: &[[i32; 8]; 16],
+    bytes: &[u8],
+    at: usize,
+    h: FrameHeader,
+    out: &mut [i16],
+    start: usize,
+)
+    requires table { ⌜ now tab ≡ dequantTab ⌝ }
+    requires frame { ⌜ (h ≡ headerAt (now bytes) at) × (h .channels ≤ maxChannels) × (at + lengthOf h ≤ length (now bytes)) ⌝ }
+    requires room { ⌜ start + h .samples * h .channels ≤ length (now out) ⌝ }
+    ensures { λ r. ⌜ now (out .exit) ≡ take start (now (out .entry)) ++ (frameSamples (frameAt (drop at (now (bytes .entry)))) ++ drop (start + h .samples * h .channels) (now (out .entry))) ⌝ }
+{
+    let channels = h.channels as usize;
+    let samples = h.samples as usize;
+    let states = read_states(bytes, at, channels);
+    let place = at + header::state_end(channels);
+    slice::decode_groups(tab, states, bytes, place, channels, samples, out, start);
+}
+
+// All frames from a place on.
+pub fn decode_held(bytes: &[u8], first: usize, out: &mut [i16])
+    requires { ⌜ (first ≤ length (now bytes)) × HasRoom (held (drop first (now bytes))) (length (now out)) ⌝ }
+    ensures { λ r. ⌜ now (out .exit) ≡ kept (held (drop first (now (bytes .entry)))) (now (out .entry)) ⌝ }
+{
+    let tab = scale::dequant_tab();
+    let mut at = first;
+    let mut done: usize = 0;
+    while QOA_HEADER_SIZE <= bytes.len() - at {
+        let h = header::read_header(bytes, at);
+        decode_frame(&tab, bytes, at, h, out, done);
+        done = done + sample_count(h);
+        at = at + header::frame_length(h.channels as usize, h.samples as usize);
+    }
+}
