@@ -5,8 +5,8 @@ use mathlib.Core.Bool.{Bool}
 use mathlib.Core.List.{List}
 use mathlib.Core.Option.{Option, none, some}
 use Rattle.word.specs.Rules.{firstOf}
-use Rattle.header.specs.Refusals.{numberOf}
 use Rattle.word.proofs.Rules.{good-same}
+use Rattle.header.specs.Refusals.{numberOf}
 use Rattle.header.proofs.Told.{never, number-one, refused-one}
 use Rattle.state.specs.View.{view}
 use Rattle.state.specs.States.{goodState}

@@ -57,7 +57,7 @@ pub fn frame_facts(h: FrameHeader) -> FrameFacts
 }
 
 // The state of a refusal.
-fn zero_state() -> QoaDecoder
+pub fn zero_state() -> QoaDecoder
     ensures { λ r. ⌜ r ≡ zeroState ⌝ }
 {
     let lms = QoaLms {

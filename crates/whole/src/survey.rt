@@ -82,7 +82,7 @@ fn check_other(h: FrameHeader, left: usize, first: First) -> Checked
 }
 
 // All checks of a frame of a kind, of which so many bytes are left.
-fn check_frame(h: FrameHeader, left: usize, kind: Kind) -> Checked
+pub fn check_frame(h: FrameHeader, left: usize, kind: Kind) -> Checked
     ensures { λ r. ⌜ toldChecked r ≡ firstOf (rulesFor kind h left) ⌝ }
 {
     let head = header::check_header(h);
@@ -102,7 +102,7 @@ fn check_frame(h: FrameHeader, left: usize, kind: Kind) -> Checked
 }
 
 // The bytes that are left after the last frame of a file.
-fn check_tail(left: usize) -> Checked
+pub fn check_tail(left: usize) -> Checked
     ensures { λ r. ⌜ toldChecked r ≡ firstOf (tailRules left) ⌝ }
 {
     if MOST_TAIL < left {
