@@ -1,0 +1,193 @@
+-- What a call did, from the facts of its run: one law for each way that it ends. Assumes nothing.
+use Prim.Native.Nat.{ℕ, zero, suc, _+_, _*_, _/_, _%_, _^_, _≤_, _<_}
+use mathlib.Core.Path.{_≡_, refl, ap, subst, sym, _∙_}
+use mathlib.Core.Bool.{Bool, true, false, not}
+use mathlib.Core.List.{List, [], _∷_, _++_}
+use mathlib.Core.Option.{Option, none, some}
+use native.Mathlib.Nat.{div-add-mod', zero-mul}
+use native.Mathlib.Omega.{arith}
+use lib.Dec.{T}
+use lib.IntN.{ℤ}
+use lib.ListN.{length}
+use Rattle.word.specs.Bytes.{put}
+use Rattle.word.specs.Rules.{Answer, good, refused, Rule, _gives_, firstOf, unless}
+use Rattle.word.proofs.Rules.{fires-left, fires-right, quiet, unless-good}
+use Rattle.word.proofs.Tests.{nnot, tests}
+use Rattle.header.specs.FileHeader.{fileWord}
+use Rattle.header.specs.Format.{frameLength, maxChannels, mostRate}
+use Rattle.header.proofs.Told.{never, refused-one}
+use Rattle.encoder.specs.Encoder.{View, view, createRules, goodEncoder, newView, toldCreate, zeroEncoder}
+use Rattle.encoder.specs.Frame.{afterFrame, firstWide, frameBytes, frameRules, perChannel}
+use Rattle.encoder.specs.OneShot.{Stop, before, bytesBefore, fileBytes, fileNeed, framesOf, headBytes, headRules, shotRules, stopIn}
+use Rattle.encoder.specs.Calls.{AllDone, CreateDone, FrameDone, NewState, ShotDone, frameMemory, frameTold, headMemory, headTold, onto, refuses, refuses-14, shotMemory, shotTold, toldEncode, wrote}
+use Rattle.encoder.specs.Parts.{FrameFits}
+use Rattle.encoder.specs.declared.CreatedEncoder.{CreatedEncoder}
+use Rattle.encoder.specs.declared.EncodeAnswer.{EncodeAnswer}
+use Rattle.encoder.specs.declared.EncodedBytes.{EncodedBytes}
+use Rattle.encoder.specs.declared.QoaEncoder.{QoaEncoder}
+use Rattle.encoder.proofs.GoodEncoders.{Good, good-facts}
+
+-- ---- creation
+
+module _ (c rate total : ℕ) (r : CreatedEncoder) where
+  pub create-refused : (n : ℕ) → firstOf (createRules c rate total) ≡ some n → toldCreate (r .answer) ≡ refused n → r .state ≡ zeroEncoder → CreateDone c rate total r
+  create-refused n e t s = record { told = rw e t; made = rw e s }
+
+  pub created : firstOf (createRules c rate total) ≡ none → toldCreate (r .answer) ≡ good tt → view (r .state) ≡ newView c rate total → CreateDone c rate total r
+  created e t s = record { told = rw e t; made = rw e s }
+
+-- and what it tells of the rules
+unless-refused : (o : Option ℕ) (n : ℕ) → unless {A = Unit {0}} o (good tt) ≡ refused n → o ≡ some n
+unless-refused none n e = never tt n e
+unless-refused (some m) n e = ap {B = Option ℕ} some (refused-one m n e)
+
+made-new : (o : Option ℕ) (v : View) (s : QoaEncoder) → o ≡ none → NewState o v s → view s ≡ v
+made-new none v s e m = m
+made-new (some n) v s e m = let z : _≡_ {A = ℕ} 0 1 = cc in absurd (omega arith)
+
+module _ (c rate total : ℕ) (r : CreatedEncoder) (d : CreateDone c rate total r) where
+  pub was-refused : (n : ℕ) → toldCreate (r .answer) ≡ refused n → firstOf (createRules c rate total) ≡ some n
+  was-refused n e = unless-refused (firstOf (createRules c rate total)) n (sym (d .told) ∙ e)
+
+  pub was-created : toldCreate (r .answer) ≡ good tt → (firstOf (createRules c rate total) ≡ none) × (view (r .state) ≡ newView c rate total)
+  was-created e =
+      let quiet = unless-good (firstOf (createRules c rate total)) (good tt) tt (sym (d .told) ∙ e) .0 in
+      (quiet, made-new (firstOf (createRules c rate total)) (newView c rate total) (r .state) quiet (d .made))
+
+-- what the rules leave
+pub record Creatable (c rate total : ℕ) : Type 0 where
+  pub some-channels : 0 < c
+  pub few-channels : c ≤ maxChannels
+  pub some-rate : 0 < rate
+  pub rate-fits : rate ≤ mostRate
+  pub some-total : 0 < total
+
+pub creatable : (c rate total : ℕ) → firstOf (createRules c rate total) ≡ none → Creatable c rate total
+unfolding createRules
+creatable c rate total e = let q = quiet (createRules c rate total) e in omega (arith, tests)
+
+-- ---- 8 comes first
+
+is-true : (b : Bool) → T b → b ≡ true
+is-true true t = refl
+is-true false t = absurd t
+
+module _ (v : View) (rules : List Rule) where
+  abbrev guarded : List Rule
+  guarded = (not (goodEncoder v) gives 8) ∷ rules
+
+  pub bad-first : goodEncoder v ≡ false → firstOf guarded ≡ some 8
+  unfolding firstOf
+  bad-first e = rw e
+
+  pub good-first : goodEncoder v ≡ true → firstOf guarded ≡ firstOf rules
+  unfolding firstOf
+  good-first e = rw e
+
+  pub good-left : firstOf guarded ≡ none → Good v
+  good-left e = good-facts v (is-true (goodEncoder v) (nnot (goodEncoder v) (quiet guarded e .0)))
+
+-- ---- the file header
+
+module _ (v : View) (out : List ℕ) where
+  pub head-refused : (n : ℕ) → firstOf (headRules v (length out)) ≡ some n → (refuses n ≡ headTold v (length out)) × (out ≡ headMemory v out)
+  head-refused n e = rw e (refl, refl)
+
+  pub head-done : (left : List ℕ) → firstOf (headRules v (length out)) ≡ none → left ≡ onto out (headBytes (v .total)) → (wrote 8 ≡ headTold v (length out)) × (left ≡ headMemory v out)
+  head-done left e m = rw e (refl, m)
+
+-- ---- a frame
+
+module _ (e : QoaEncoder) (samples : List ℤ) (out : List ℕ) (r : EncodedBytes) (left : List ℕ) where
+  abbrev rulesOf : List Rule
+  rulesOf = frameRules (view e) samples (length out)
+
+  pub frame-refused : (n : ℕ) → firstOf rulesOf ≡ some n → toldEncode (r .answer) ≡ refuses n → left ≡ out → r .state ≡ e → FrameDone e samples out r left
+  unfolding frameTold frameMemory
+  frame-refused n fired t m s = record { told = rw fired t; memory = rw fired m; back = rw fired s }
+
+  pub frame-wide : (j : ℕ) → firstOf rulesOf ≡ none → firstWide (view e .channels) (view e .lms) ≡ some j → toldEncode (r .answer) ≡ refuses-14 0 j → left ≡ out → r .state ≡ e
+      → FrameDone e samples out r left
+  unfolding frameTold frameMemory
+  frame-wide j quiet wide t m s = record { told = rw (quiet, wide) t; memory = rw (quiet, wide) m; back = rw (quiet, wide) s }
+
+  pub frame-done : firstOf rulesOf ≡ none → firstWide (view e .channels) (view e .lms) ≡ none → toldEncode (r .answer) ≡ wrote (frameLength (view e .channels) (perChannel (view e) samples))
+      → left ≡ onto out (frameBytes (view e) samples) → view (r .state) ≡ afterFrame (view e) samples → FrameDone e samples out r left
+  unfolding frameTold frameMemory
+  frame-done quiet wide t m s = record { told = rw (quiet, wide) t; memory = rw (quiet, wide) m; back = rw (quiet, wide) s }
+
+-- a whole number of samples for each channel
+some-of : (n c long : ℕ) → n * c ≡ long → 0 < long → 0 < n
+some-of zero c long e h = omega (arith, zero-mul c)
+some-of (suc n) c long e h = omega arith
+
+-- what the rules leave
+pub frame-fits : (v : View) (samples : List ℤ) (room : ℕ) → firstOf (frameRules v samples room) ≡ none → firstWide (v .channels) (v .lms) ≡ none
+    → FrameFits v samples × (frameLength (v .channels) (perChannel v samples) ≤ room)
+unfolding frameRules
+frame-fits v samples room e narrow =
+    let g = good-left v _ e in
+    let q = quiet (frameRules v samples room) e .1 in
+    let whole : perChannel v samples * v .channels ≡ length samples = omega (arith, tests, div-add-mod' (length samples) (v .channels)) in (
+      record {
+        some-channels = g .some-channels;
+        few-channels = g .few-channels;
+        rate-fits = g .rate-fits;
+        whole = whole;
+        some-samples = some-of (perChannel v samples) (v .channels) (length samples) whole (omega (arith, tests));
+        few-samples = omega (arith, tests);
+        narrow = narrow;
+      },
+      omega (arith, tests),
+    )
+
+-- ---- one shot
+
+-- what the rules leave
+pub record Shot (v : View) (samples : List ℤ) (room : ℕ) : Type 0 where
+  pub good-state : Good v
+  pub long : length samples ≡ v .total * v .channels
+  pub enough : fileNeed v ≤ room
+
+pub shot-fits : (v : View) (samples : List ℤ) (room : ℕ) → firstOf (shotRules v samples room) ≡ none → Shot v samples room
+unfolding shotRules
+shot-fits v samples room e =
+    let q = quiet (shotRules v samples room) e .1 in
+    record { good-state = good-left v _ e; long = omega (arith, tests); enough = omega (arith, tests) }
+
+module _ (e : QoaEncoder) (samples : List ℤ) (out : List ℕ) (r : EncodedBytes) (left : List ℕ) where
+  abbrev shotsOf : List Rule
+  shotsOf = shotRules (view e) samples (length out)
+
+  pub shot-refused : (n : ℕ) → firstOf shotsOf ≡ some n → toldEncode (r .answer) ≡ refuses n → left ≡ out → r .state ≡ e → ShotDone e samples out r left
+  unfolding shotTold shotMemory
+  shot-refused n fired t m s = record { told = rw fired t; memory = rw fired m; back = rw fired s }
+
+  pub shot-wide : (stop : Stop) → firstOf shotsOf ≡ none → stopIn (view e) samples (framesOf (view e)) ≡ some stop
+      → toldEncode (r .answer) ≡ refuses-14 (length (bytesBefore (view e) samples (stop .frame))) (stop .channel) → left ≡ onto out (bytesBefore (view e) samples (stop .frame)) → r .state ≡ e
+      → ShotDone e samples out r left
+  unfolding shotTold shotMemory
+  shot-wide stop quiet wide t m s = record { told = rw (quiet, wide) t; memory = rw (quiet, wide) m; back = rw (quiet, wide) s }
+
+  pub shot-done : firstOf shotsOf ≡ none → stopIn (view e) samples (framesOf (view e)) ≡ none → toldEncode (r .answer) ≡ wrote (fileNeed (view e)) → left ≡ onto out (fileBytes (view e) samples)
+      → view (r .state) ≡ before (view e) samples (framesOf (view e)) → ShotDone e samples out r left
+  unfolding shotTold shotMemory
+  shot-done quiet wide t m s = record { told = rw (quiet, wide) t; memory = rw (quiet, wide) m; back = rw (quiet, wide) s }
+
+-- from a new encoder
+module _ (c rate total : ℕ) (samples : List ℤ) (out : List ℕ) (r : EncodeAnswer) (left : List ℕ) where
+  abbrev later : List Rule
+  later = shotRules (newView c rate total) samples (length out)
+
+  pub all-refused : (n : ℕ) → firstOf (createRules c rate total) ≡ some n → toldEncode r ≡ refuses n → left ≡ out → AllDone c rate total samples out r left
+  unfolding shotTold shotMemory
+  all-refused n fired t m =
+      let first = fires-left (createRules c rate total) later n fired in
+      record { told = rw first t; memory = rw first m }
+
+  pub all-done : (s : QoaEncoder) (done : EncodedBytes) → firstOf (createRules c rate total) ≡ none → view s ≡ newView c rate total → r ≡ done .answer → ShotDone s samples out done left
+      → AllDone c rate total samples out r left
+  unfolding shotTold shotMemory
+  all-done s done quiet new same d =
+      let second = fires-right (createRules c rate total) later quiet in
+      record { told = rw (second, ← new) (ap toldEncode same ∙ d .told); memory = rw (second, ← new) (d .memory) }

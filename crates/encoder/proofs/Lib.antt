@@ -1,0 +1,10 @@
+-- Laws for the crates above.
+pub mod Overlays
+pub mod Laids
+pub mod Channels
+pub mod Wides
+pub mod GoodEncoders
+pub mod Heads
+pub mod Frames
+pub mod Files
+pub mod Done

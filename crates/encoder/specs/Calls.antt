@@ -1,0 +1,115 @@
+-- What each encoding call answers, leaves in the lent output, and hands back. Assumes nothing.
+use Prim.Native.Nat.{ℕ, _+_}
+use mathlib.Core.Path.{_≡_}
+use mathlib.Core.List.{List, _++_}
+use mathlib.Core.Option.{Option, none, some}
+use lib.IntN.{ℤ}
+use lib.ListN.{length, take, drop}
+use Rattle.word.specs.Rules.{Answer, good, refused, Rule, after, firstOf}
+use Rattle.header.specs.Format.{frameLength}
+use Rattle.header.specs.Refusals.{numberOf}
+use Rattle.encoder.specs.Encoder.{View, view, createRules, newView, toldCreate, zeroEncoder}
+use Rattle.encoder.specs.Frame.{afterFrame, firstWide, frameBytes, frameRules, perChannel}
+use Rattle.encoder.specs.OneShot.{Stop, before, bytesBefore, fileBytes, fileNeed, framesOf, headBytes, headRules, shotRules, stopIn}
+use Rattle.encoder.specs.declared.QoaEncoder.{QoaEncoder}
+use Rattle.encoder.specs.declared.CreatedEncoder.{CreatedEncoder}
+use Rattle.encoder.specs.declared.EncodedBytes.{EncodedBytes}
+use Rattle.encoder.specs.declared.EncodeAnswer.{EncodeAnswer}
+use Rattle.encoder.specs.declared.EncodeAnswer.the-variants.{Written, Refused, WeightRange}
+use Rattle.encoder.specs.declared.NeedAnswer as N
+
+-- what an encoding call tells: the bytes written; a refusal; or refusal 14, with the bytes that stand in the output and the channel
+pub data Told : Type 0 where
+  wrote : ℕ → Told
+  refuses : ℕ → Told
+  refuses-14 : ℕ → ℕ → Told
+
+abbrev pub toldEncode : EncodeAnswer → Told
+toldEncode (Written n) = wrote n
+toldEncode (Refused r) = refuses (numberOf r)
+toldEncode (WeightRange count channel) = refuses-14 count channel
+
+abbrev pub toldNeed : N.NeedAnswer → Answer ℕ
+toldNeed (N.the-variants.Bytes n) = good n
+toldNeed (N.the-variants.Refused r) = refused (numberOf r)
+
+-- what comes of a thing that is there, or else the other
+abbrev pub ifSome : {A B : Type 0} → Option B → (B → A) → A → A
+ifSome none f a = a
+ifSome (some b) f a = f b
+
+-- the bytes at the start of the output; what lies past them is as it was
+abbrev pub onto : List ℕ → List ℕ → List ℕ
+onto out bytes = bytes ++ drop (length bytes) out
+
+-- on a refusal the state that was given, whole; else one that means the next
+abbrev pub HandsBack : Told → QoaEncoder → View → QoaEncoder → Type 0
+HandsBack (wrote n) given next back = view back ≡ next
+HandsBack (refuses n) given next back = back ≡ given
+HandsBack (refuses-14 count channel) given next back = back ≡ given
+
+-- ---- creation
+
+-- a new encoder; on a refusal all zero
+abbrev pub NewState : Option ℕ → View → QoaEncoder → Type 0
+NewState none v e = view e ≡ v
+NewState (some n) v e = e ≡ zeroEncoder
+
+pub record CreateDone (c rate total : ℕ) (r : CreatedEncoder) : Type 0 where
+  pub told : toldCreate (r .answer) ≡ after (createRules c rate total) (good tt)
+  pub made : NewState (firstOf (createRules c rate total)) (newView c rate total) (r .state)
+
+-- ---- the file header
+
+abbrev pub headTold : View → ℕ → Told
+headTold v room = ifSome (firstOf (headRules v room)) refuses (wrote 8)
+
+abbrev pub headMemory : View → List ℕ → List ℕ
+headMemory v out = ifSome (firstOf (headRules v (length out))) (λ n. out) (onto out (headBytes (v .total)))
+
+-- ---- a frame
+
+unfoldable pub frameTold : View → List ℤ → ℕ → Told
+frameTold v samples room =
+    ifSome (firstOf (frameRules v samples room)) refuses
+    (ifSome (firstWide (v .channels) (v .lms)) (refuses-14 0)
+    (wrote (frameLength (v .channels) (perChannel v samples))))
+
+unfoldable pub frameMemory : View → List ℤ → List ℕ → List ℕ
+frameMemory v samples out =
+    ifSome (firstOf (frameRules v samples (length out))) (λ n. out)
+    (ifSome (firstWide (v .channels) (v .lms)) (λ j. out)
+    (onto out (frameBytes v samples)))
+
+pub record FrameDone (e : QoaEncoder) (samples : List ℤ) (out : List ℕ) (r : EncodedBytes) (left : List ℕ) : Type 0 where
+  pub told : toldEncode (r .answer) ≡ frameTold (view e) samples (length out)
+  pub memory : left ≡ frameMemory (view e) samples out
+  pub back : HandsBack (frameTold (view e) samples (length out)) e (afterFrame (view e) samples) (r .state)
+
+-- ---- one shot
+
+-- the refusals, then 14, which leaves the file header and the frames before the refused one, then the whole file
+unfoldable pub shotTold : List Rule → View → List ℤ → Told
+shotTold rules v samples =
+    ifSome (firstOf rules) refuses
+    (ifSome (stopIn v samples (framesOf v)) (λ s. refuses-14 (length (bytesBefore v samples (s .frame))) (s .channel))
+    (wrote (fileNeed v)))
+
+unfoldable pub shotMemory : List Rule → View → List ℤ → List ℕ → List ℕ
+shotMemory rules v samples out =
+    ifSome (firstOf rules) (λ n. out)
+    (ifSome (stopIn v samples (framesOf v)) (λ s. onto out (bytesBefore v samples (s .frame)))
+    (onto out (fileBytes v samples)))
+
+pub record ShotDone (e : QoaEncoder) (samples : List ℤ) (out : List ℕ) (r : EncodedBytes) (left : List ℕ) : Type 0 where
+  pub told : toldEncode (r .answer) ≡ shotTold (shotRules (view e) samples (length out)) (view e) samples
+  pub memory : left ≡ shotMemory (shotRules (view e) samples (length out)) (view e) samples out
+  pub back : HandsBack (shotTold (shotRules (view e) samples (length out)) (view e) samples) e (before (view e) samples (framesOf (view e))) (r .state)
+
+-- from a new encoder: 11, 12, 13, then 13, 7, 14
+abbrev pub allRules : ℕ → ℕ → ℕ → List ℤ → ℕ → List Rule
+allRules c rate total samples room = createRules c rate total ++ shotRules (newView c rate total) samples room
+
+pub record AllDone (c rate total : ℕ) (samples : List ℤ) (out : List ℕ) (r : EncodeAnswer) (left : List ℕ) : Type 0 where
+  pub told : toldEncode r ≡ shotTold (allRules c rate total samples (length out)) (newView c rate total) samples
+  pub memory : left ≡ shotMemory (allRules c rate total samples (length out)) (newView c rate total) samples out

@@ -1,0 +1,99 @@
+-- A frame: its bytes, the state after it, its refusals, and the writer's reconstruction of it. Assumes nothing.
+use Prim.Native.Nat.{ℕ, zero, suc, _+_, _*_, _/_, _%_}
+use mathlib.Core.Bool.{Bool, not, cond}
+use mathlib.Core.List.{List, [], _∷_, _++_}
+use mathlib.Core.Option.{Option, none, some}
+use lib.Dec.{eqb, ltb}
+use lib.IntN.{ℤ}
+use lib.ListN.{length}
+use lib.Signed.{mag}
+use Rattle.word.specs.Bytes.{bytesOf}
+use Rattle.word.specs.Rules.{Rule, _gives_}
+use Rattle.word.specs.Written.{table}
+use Rattle.lms.specs.Predictor.{at}
+use Rattle.lms.specs.declared.QoaLms.{QoaLms}
+use Rattle.header.specs.Format.{frameLength, slicesOf}
+use Rattle.header.specs.Header.{headerWord}
+use Rattle.header.specs.Predictor.{fourWord, lmsOf}
+use Rattle.header.specs.declared.frame.FrameHeader.{FrameHeader}
+use Rattle.state.specs.States.{below}
+use Rattle.search.specs.Search.{strided}
+use Rattle.encoder.specs.Encoder.{View, goodEncoder}
+use Rattle.encoder.specs.Channel.{lmsBefore, sliceWord, sumAt}
+
+-- ---- the samples, n of each of c channels, interleaved
+
+abbrev pub perChannel : View → List ℤ → ℕ
+perChannel v samples = length samples / v .channels
+
+-- those of channel j
+abbrev pub channelOf : View → List ℤ → ℕ → List ℤ
+channelOf v samples j = strided (perChannel v samples) samples j (v .channels)
+
+-- ---- the bytes
+
+-- the size field is the frame's length
+abbrev pub headerFor : View → ℕ → FrameHeader
+headerFor v n = record { channels = v .channels; rate = v .rate; samples = n; size = frameLength (v .channels) n }
+
+-- f 0, f 1, .. below n, one after another
+unfoldable pub laid : ℕ → (ℕ → List ℕ) → List ℕ
+laid zero f = []
+laid (suc n) f = laid n f ++ f n
+
+-- four history and four weight numbers
+abbrev pub lmsBytes : QoaLms → List ℕ
+lmsBytes lms = bytesOf 8 (fourWord (lms .history)) ++ bytesOf 8 (fourWord (lms .weights))
+
+abbrev pub stateBytes : View → List ℕ
+stateBytes v = laid (v .channels) (λ j. lmsBytes (lmsOf (v .lms) j))
+
+-- slice group g: one slice of each channel in turn
+abbrev pub groupBytes : View → List ℤ → ℕ → List ℕ
+groupBytes v samples g = laid (v .channels) (λ j. bytesOf 8 (sliceWord (lmsOf (v .lms) j) (channelOf v samples j) g))
+
+-- header, predictor states, slice groups
+unfoldable pub frameBytes : View → List ℤ → List ℕ
+frameBytes v samples =
+    bytesOf 8 (headerWord (headerFor v (perChannel v samples)))
+    ++ (stateBytes v
+    ++ laid (slicesOf (perChannel v samples)) (groupBytes v samples))
+
+-- the state after it
+unfoldable pub afterFrame : View → List ℤ → View
+afterFrame v samples = record {
+  channels = v .channels;
+  rate = v .rate;
+  total = v .total;
+  lms = table (v .channels) (λ j. lmsBefore (lmsOf (v .lms) j) (channelOf v samples j) (slicesOf (perChannel v samples)));
+}
+
+-- the writer's reconstruction, interleaved as the samples are
+unfoldable pub frameSums : View → List ℤ → List ℤ
+frameSums v samples =
+    table (perChannel v samples * v .channels) (λ k. sumAt (lmsOf (v .lms) (k % v .channels)) (channelOf v samples (k % v .channels)) (k / v .channels))
+
+-- ---- the refusals
+
+-- 8; 13: empty, not a multiple of channels, or over 5120 per channel; 7
+unfoldable pub frameRules : View → List ℤ → ℕ → List Rule
+frameRules v samples room =
+    (not (goodEncoder v) gives 8)
+    ∷ (eqb (length samples) 0 gives 13)
+    ∷ (not (eqb (length samples % v .channels) 0) gives 13)
+    ∷ (ltb 5120 (perChannel v samples) gives 13)
+    ∷ (ltb room (frameLength (v .channels) (perChannel v samples)) gives 7)
+    ∷ []
+
+-- numbers in -32768..32767
+unfoldable pub allShort : List ℤ → Bool
+allShort xs = below (length xs) (λ i. ltb (mag (at xs i)) 32768)
+
+-- 14: the first of n channels with a weight outside of it
+abbrev pub orThen : Option ℕ → Option ℕ → Option ℕ
+orThen none o = o
+orThen (some j) o = some j
+
+unfoldable pub firstWide : ℕ → List QoaLms → Option ℕ
+firstWide zero states = none
+firstWide (suc n) states = orThen (firstWide n states) (cond (allShort (lmsOf states n .weights)) none (some n))

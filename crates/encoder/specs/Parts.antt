@@ -1,0 +1,34 @@
+-- What the parts of the code ask and answer. Assumes nothing.
+use Prim.Native.Nat.{ℕ, _+_, _*_, _≤_, _<_}
+use mathlib.Core.Path.{_≡_}
+use mathlib.Core.List.{List, _++_}
+use mathlib.Core.Option.{Option, none, some}
+use lib.IntN.{ℤ}
+use lib.ListN.{length, take, drop}
+use Rattle.header.specs.Format.{frameLength, maxChannels, mostRate}
+use Rattle.encoder.specs.Encoder.{View}
+use Rattle.encoder.specs.Frame.{firstWide, perChannel}
+use Rattle.encoder.specs.declared.Wide.{Wide}
+use Rattle.encoder.specs.declared.Wide.the-variants.{Nowhere, At}
+
+-- bytes laid over what was there, from a place on
+unfoldable pub overlaid : List ℕ → ℕ → List ℕ → List ℕ
+overlaid out p bytes = take p out ++ (bytes ++ drop (p + length bytes) out)
+
+-- where frame f of a file stands: after the file header and f full frames
+unfoldable pub framePlace : ℕ → ℕ → ℕ
+framePlace c f = 8 + f * frameLength c 5120
+
+abbrev pub toldWide : Wide → Option ℕ
+toldWide Nowhere = none
+toldWide (At j) = some j
+
+-- a frame that no rule refuses, but for the room
+pub record FrameFits (v : View) (samples : List ℤ) : Type 0 where
+  pub some-channels : 0 < v .channels
+  pub few-channels : v .channels ≤ maxChannels
+  pub rate-fits : v .rate ≤ mostRate
+  pub whole : perChannel v samples * v .channels ≡ length samples
+  pub some-samples : 0 < perChannel v samples
+  pub few-samples : perChannel v samples ≤ 5120
+  pub narrow : firstWide (v .channels) (v .lms) ≡ none

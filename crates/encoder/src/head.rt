@@ -1,0 +1,35 @@
+// The file header.
+ghost use mathlib.Core.Path.{_≡_};
+ghost use Prim.Native.Nat.{_≤_};
+ghost use lib.ListN.{length};
+ghost use Rattle.encoder.specs.Encoder.{view};
+ghost use Rattle.encoder.specs.OneShot.{headBytes};
+ghost use Rattle.encoder.specs.Calls.{headMemory, headTold, onto, toldEncode};
+use crate::EncodeAnswer;
+use crate::QoaEncoder;
+use crate::rules::is_good_encoder;
+use header::file::file_word;
+use header::frame::QOA_HEADER_SIZE;
+use header::refusal::Refusal;
+
+// Stores `qoaf` and the total at the start of the output.
+pub fn put_head(total: u32, out: &mut [u8])
+    requires { ⌜ 8 ≤ length (now out) ⌝ }
+    ensures { λ r. ⌜ now (out .exit) ≡ onto (now (out .entry)) (headBytes total) ⌝ }
+{
+    word::write_u64(out, 0, file_word(total));
+}
+
+// The file header: 8, then 7.
+pub fn write_header(e: QoaEncoder, out: &mut [u8]) -> EncodeAnswer
+    ensures { λ r. ⌜ (toldEncode r ≡ headTold (view e) (length (now (out .entry)))) × (now (out .exit) ≡ headMemory (view e) (now (out .entry))) ⌝ }
+{
+    if !is_good_encoder(e) {
+        return EncodeAnswer::Refused(Refusal::BadState);
+    }
+    if out.len() < QOA_HEADER_SIZE {
+        return EncodeAnswer::Refused(Refusal::OutputTooSmall);
+    }
+    put_head(e.total, out);
+    EncodeAnswer::Written(QOA_HEADER_SIZE)
+}

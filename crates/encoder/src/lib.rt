@@ -1,0 +1,62 @@
+// The encoder: a state by value, and the calls on it with lent samples and lent output.
+use header::frame::QOA_MAX_CHANNELS;
+use header::refusal::Refusal;
+use lms::QoaLms;
+
+pub mod create;
+pub mod frame;
+pub mod group;
+pub mod head;
+pub mod rules;
+pub mod shot;
+
+pub use create::new_encoder;
+pub use frame::encode_frame;
+pub use head::write_header;
+pub use rules::is_good_encoder;
+pub use shot::encode;
+pub use shot::encode_all;
+pub use shot::encode_need;
+
+pub struct QoaEncoder {
+    pub channels: u8,
+    pub rate: u32,
+    // samples per channel in the whole file
+    pub total: u32,
+    pub lms: [QoaLms; QOA_MAX_CHANNELS],
+}
+
+// A new encoder; where it is refused the state is all zero.
+pub enum CreateAnswer {
+    Created,
+    Refused(Refusal),
+}
+
+pub struct CreatedEncoder {
+    pub answer: CreateAnswer,
+    pub state: QoaEncoder,
+}
+
+// How many bytes were written. Refusal 14 tells how many stand in the output, and the first channel that has such a weight.
+pub enum EncodeAnswer {
+    Written(usize),
+    Refused(Refusal),
+    WeightRange { count: usize, channel: u8 },
+}
+
+pub struct EncodedBytes {
+    pub answer: EncodeAnswer,
+    pub state: QoaEncoder,
+}
+
+// The first channel that has a weight out of range.
+pub enum Wide {
+    Nowhere,
+    At(u8),
+}
+
+// How many bytes a whole file takes.
+pub enum NeedAnswer {
+    Bytes(usize),
+    Refused(Refusal),
+}

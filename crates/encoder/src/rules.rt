@@ -1,0 +1,91 @@
+// The state rules of an encoder, and the range of its weights.
+ghost use mathlib.Core.Path.{_≡_};
+ghost use Prim.Native.Nat.{_≤_};
+ghost use lib.Dec.{ltb};
+ghost use lib.Signed.{mag};
+ghost use Rattle.header.specs.Format.{maxChannels};
+ghost use Rattle.header.specs.Predictor.{lmsOf};
+ghost use Rattle.state.specs.States.{below, historyRule};
+ghost use Rattle.encoder.specs.Encoder.{goodEncoder, view};
+ghost use Rattle.encoder.specs.Frame.{allShort, firstWide};
+ghost use Rattle.encoder.specs.Parts.{toldWide};
+use crate::QoaEncoder;
+use crate::Wide;
+use header::frame::QOA_LMS_LEN;
+use header::frame::QOA_MAX_CHANNELS;
+use lms::QoaLms;
+
+// The highest rate that 24 bits hold.
+pub const QOA_MOST_RATE: u32 = 16777215;
+
+// A number of 16 bits.
+fn is_short(x: i32) -> bool
+    ensures { λ r. ⌜ r ≡ ltb (mag x) 32768 ⌝ }
+{
+    if x < -32768 { false } else { x <= 32767 }
+}
+
+// Numbers of 16 bits.
+fn are_short(xs: [i32; 4]) -> bool
+    ensures { λ r. ⌜ r ≡ allShort xs ⌝ }
+{
+    for i in 0..QOA_LMS_LEN {
+        if !is_short(xs[i]) {
+            return false;
+        }
+    }
+    true
+}
+
+// The histories of the used channels are in 16 bits.
+fn are_good_histories(states: [QoaLms; QOA_MAX_CHANNELS], channels: usize) -> bool
+    requires { ⌜ channels ≤ maxChannels ⌝ }
+    ensures { λ r. ⌜ r ≡ below channels (λ j. historyRule (lmsOf states j)) ⌝ }
+{
+    for j in 0..channels {
+        let lms = states[j];
+        let history = lms.history;
+        if !are_short(history) {
+            return false;
+        }
+    }
+    true
+}
+
+// All of the state rules.
+pub fn is_good_encoder(e: QoaEncoder) -> bool
+    ensures { λ r. ⌜ r ≡ goodEncoder (view e) ⌝ }
+{
+    if e.channels == 0 {
+        return false;
+    }
+    if QOA_MAX_CHANNELS < e.channels as usize {
+        return false;
+    }
+    if e.rate == 0 {
+        return false;
+    }
+    if QOA_MOST_RATE < e.rate {
+        return false;
+    }
+    if e.total == 0 {
+        return false;
+    }
+    let states = e.lms;
+    are_good_histories(states, e.channels as usize)
+}
+
+// The first channel that has a weight out of 16 bits.
+pub fn first_wide(states: [QoaLms; QOA_MAX_CHANNELS], channels: usize) -> Wide
+    requires { ⌜ channels ≤ maxChannels ⌝ }
+    ensures { λ r. ⌜ toldWide r ≡ firstWide channels states ⌝ }
+{
+    for j in 0..channels {
+        let lms = states[j];
+        let weights = lms.weights;
+        if !are_short(weights) {
+            return Wide::At(j as u8);
+        }
+    }
+    Wide::Nowhere
+}
