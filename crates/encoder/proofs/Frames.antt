@@ -113,8 +113,8 @@ module _ (v : View) (samples : List ℤ) where
     rate-fits = g .rate-fits;
     some-total = g .some-total;
     histories = λ j h.
-    rw (getD-table (v .channels) (λ j. lmsBefore (lmsOf (v .lms) j) (channelOf v samples j) (slicesOf (perChannel v samples))) j noLms h)
-    (before-fits (lmsOf (v .lms) j) (channelOf v samples j) (slicesOf (perChannel v samples)) (omega (arith, strided-length (perChannel v samples) samples j (v .channels))) (g .histories j h));
+        rw (getD-table (v .channels) (λ j. lmsBefore (lmsOf (v .lms) j) (channelOf v samples j) (slicesOf (perChannel v samples))) j noLms h)
+        (before-fits (lmsOf (v .lms) j) (channelOf v samples j) (slicesOf (perChannel v samples)) (omega (arith, strided-length (perChannel v samples) samples j (v .channels))) (g .histories j h));
   }
 
   -- an accepted frame hands back a good state

@@ -160,7 +160,13 @@ pub fn encode(e: QoaEncoder, samples: &[i16], out: &mut [u8]) -> EncodedBytes
 }
 
 // A whole file from a new encoder: 11, 12, 13, then 13, 7, 14.
-pub fn encode_all(channels: u8, rate: u32, total: u32, samples: &[i16], out: &mut [u8]) -> EncodeAnswer
+pub fn encode_all(
+    channels: u8,
+    rate: u32,
+    total: u32,
+    samples: &[i16],
+    out: &mut [u8],
+) -> EncodeAnswer
     ensures { λ r. ⌜ AllDone channels rate total (now (samples .entry)) (now (out .entry)) r (now (out .exit)) ⌝ }
 {
     let created = new_encoder(channels, rate, total);

@@ -101,8 +101,8 @@ returns c =
     let samples = start .args .samples .now in (
       after-of e samples (put .put-groups .result) (put .put-groups .ensures .0),
       put .put-groups .ensures .1
-      ∙ rw (put .before .state-end .ensures, stored .put-states .ensures, written .write-u64 .ensures, written .before .header-word .ensures, written .before .before .before .frame-length .ensures, frame-of e samples)
-      (frame-over (start .args .out .now) (start .args .at) _ (16 * e .channels) _ _ (omega (arith, length-states (e .channels) (lmsOf (e .lms)))) (omega (arith, fits start))),
+          ∙ rw (put .before .state-end .ensures, stored .put-states .ensures, written .write-u64 .ensures, written .before .header-word .ensures, written .before .before .before .frame-length .ensures, frame-of e samples)
+          (frame-over (start .args .out .now) (start .args .at) _ (16 * e .channels) _ _ (omega (arith, length-states (e .channels) (lmsOf (e .lms)))) (omega (arith, fits start))),
     )
 
 pub put-frame-spec : {M : Type 1} → statement M

@@ -128,8 +128,8 @@ put-group-requires c κs =
           (
             omega (arith, room turn, long l),
             λ j h.
-            rw (l .loop .inv .2 j h)
-            (within-more (omega (arith, some turn)) (before-within (lmsOf (args .states) j) (strided (args .n) (args .samples .now) j (args .channels)) (l .loop .g) (omega (arith, some turn, strided-length (args .n) (args .samples .now) j (args .channels))) (start .pre .1 .1 .1 j h))),
+                rw (l .loop .inv .2 j h)
+                (within-more (omega (arith, some turn)) (before-within (lmsOf (args .states) j) (strided (args .n) (args .samples .now) j (args .channels)) (l .loop .g) (omega (arith, some turn, strided-length (args .n) (args .samples .now) j (args .channels))) (start .pre .1 .1 .1 j h))),
           ),
         ),
       ),
@@ -169,8 +169,13 @@ bytes-again c =
     let args = start .args in
     let g = l .loop .g in
     c .put-group .ensures .1
-    ∙ rw (cut .slice-len .ensures, laid-ext (args .channels) _ (λ j. bytesOf 8 (sliceWord (lmsOf (args .states) j) (strided (args .n) (args .samples .now) j (args .channels)) g))
-    (λ j h. ap (bytesOf 8) (next-word (args .n) (args .channels) (args .samples .now) (lmsOf (args .states) j) j g (some turn .0) (lmsOf (l .loop .next) j) (l .loop .inv .2 j h))), l .loop .inv .3, add-one)
+    ∙ rw (
+      cut .slice-len .ensures,
+      laid-ext (args .channels) _ (λ j. bytesOf 8 (sliceWord (lmsOf (args .states) j) (strided (args .n) (args .samples .now) j (args .channels)) g))
+          (λ j h. ap (bytesOf 8) (next-word (args .n) (args .channels) (args .samples .now) (lmsOf (args .states) j) j g (some turn .0) (lmsOf (l .loop .next) j) (l .loop .inv .2 j h))),
+      l .loop .inv .3,
+      add-one,
+    )
     (next-block (args .channels * 8) (group (args .states) (args .samples .now) (args .n) (args .channels)) (λ i. length-words (args .channels) _) (args .out .now) (args .at) g (args .at + 8 * (g * args .channels)) (omega arith) (omega (arith, room turn)))
 
 loop-again : tie.Need-loop-again Inv-loop μ-loop

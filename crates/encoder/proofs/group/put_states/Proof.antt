@@ -62,7 +62,7 @@ loop-again c =
     let j = l .loop .j in (
       omega arith,
       rw (c .before .before .write-lms .ensures, add-one, over-lms (l .loop .out) (args .at + 16 * j) (lmsOf (args .t1) j) (omega (arith, long l)), l .loop .inv .1)
-      (next-block 16 (stored (args .t1)) (λ k. length-lms (lmsOf (args .t1) k)) (args .out .now) (args .at) j (args .at + 16 * j) refl (omega arith)),
+          (next-block 16 (stored (args .t1)) (λ k. length-lms (lmsOf (args .t1) k)) (args .out .now) (args .at) j (args .at + 16 * j) refl (omega arith)),
     )
 
 same-length : tie.Need-same-length Inv-loop μ-loop
