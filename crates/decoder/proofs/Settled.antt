@@ -1,0 +1,92 @@
+-- Each contract settles its call: what an answer tells is one-to-one, and any two answers that it permits are equal, with states of one view. Assumes nothing.
+use mathlib.Core.Path.{_≡_, refl, ap, sym, _∙_}
+use mathlib.Core.List.{List}
+use mathlib.Core.Option.{Option, none, some}
+use Prim.Native.Nat.{ℕ}
+use native.Mathlib.Omega.{arith}
+use lib.IntN.{ℤ}
+use lib.ListN.{length}
+use Rattle.word.specs.Rules.{Answer, firstOf, good}
+use Rattle.word.proofs.Rules.{good-same}
+use Rattle.header.specs.Refusals.{numberOf}
+use Rattle.header.proofs.Told.{never, number-one, refused-one}
+use Rattle.state.specs.View.{View, view}
+use Rattle.state.specs.declared.FrameFacts.{FrameFacts}
+use Rattle.state.specs.declared.QoaDecoder.{QoaDecoder}
+use Rattle.decoder.specs.Left.{Leaves}
+use Rattle.decoder.specs.Into.{IntoDone, intoAfter, intoRules, toldInto}
+use Rattle.decoder.specs.Frames.{Found, NextDone, a-frame, nextAfter, nextRules, no-frame, toldFrame}
+use Rattle.decoder.specs.Items.{Item, ItemDone, a-header, a-sample, itemAfter, itemRules, no-item, toldItem}
+use Rattle.decoder.specs.declared.DecodedInto.{DecodedInto}
+use Rattle.decoder.specs.declared.NextFrame.{NextFrame}
+use Rattle.decoder.specs.declared.NextItem.{NextItem}
+use Rattle.decoder.specs.declared.IntoAnswer as I
+use Rattle.decoder.specs.declared.FrameAnswer as F
+use Rattle.decoder.specs.declared.QoaItem as Q
+
+-- ---- what an answer tells
+
+pub told-into : (a b : I.IntoAnswer) → toldInto a ≡ toldInto b → a ≡ b
+told-into (I.the-variants.Count m) (I.the-variants.Count n) e = ap I.the-variants.Count (good-same m n e)
+told-into (I.the-variants.Count m) (I.the-variants.Refused s) e = never m (numberOf s) e
+told-into (I.the-variants.Refused r) (I.the-variants.Count n) e = never n (numberOf r) (sym e)
+told-into (I.the-variants.Refused r) (I.the-variants.Refused s) e = ap I.the-variants.Refused (number-one r s (refused-one (numberOf r) (numberOf s) e))
+
+-- the code's answer for what is found
+abbrev answerFor : Found → F.FrameAnswer
+answerFor (a-frame f) = F.the-variants.Frame f
+answerFor no-frame = F.the-variants.End
+
+told-found : (x : Found) (b : F.FrameAnswer) → good x ≡ toldFrame b → answerFor x ≡ b
+told-found x (F.the-variants.Frame g) e = ap answerFor (good-same x (a-frame g) e)
+told-found x F.the-variants.End e = ap answerFor (good-same x no-frame e)
+told-found x (F.the-variants.Refused s) e = never x (numberOf s) e
+
+pub told-frame : (a b : F.FrameAnswer) → toldFrame a ≡ toldFrame b → a ≡ b
+told-frame (F.the-variants.Frame f) b e = told-found (a-frame f) b e
+told-frame F.the-variants.End b e = told-found no-frame b e
+told-frame (F.the-variants.Refused r) (F.the-variants.Frame g) e = never (a-frame g) (numberOf r) (sym e)
+told-frame (F.the-variants.Refused r) F.the-variants.End e = never no-frame (numberOf r) (sym e)
+told-frame (F.the-variants.Refused r) (F.the-variants.Refused s) e = ap F.the-variants.Refused (number-one r s (refused-one (numberOf r) (numberOf s) e))
+
+-- the code's item for what is given
+abbrev codeFor : Item → Q.QoaItem
+codeFor (a-header f) = Q.the-variants.Header f
+codeFor (a-sample x) = Q.the-variants.Sample x
+codeFor no-item = Q.the-variants.End
+
+told-good : (i : Item) (b : Q.QoaItem) → good i ≡ toldItem b → codeFor i ≡ b
+told-good i (Q.the-variants.Header f) e = ap codeFor (good-same i (a-header f) e)
+told-good i (Q.the-variants.Sample x) e = ap codeFor (good-same i (a-sample x) e)
+told-good i Q.the-variants.End e = ap codeFor (good-same i no-item e)
+told-good i (Q.the-variants.Refused r) e = never i (numberOf r) e
+
+pub told-item : (a b : Q.QoaItem) → toldItem a ≡ toldItem b → a ≡ b
+told-item (Q.the-variants.Header f) b e = told-good (a-header f) b e
+told-item (Q.the-variants.Sample x) b e = told-good (a-sample x) b e
+told-item Q.the-variants.End b e = told-good no-item b e
+told-item (Q.the-variants.Refused r) (Q.the-variants.Header f) e = never (a-header f) (numberOf r) (sym e)
+told-item (Q.the-variants.Refused r) (Q.the-variants.Sample x) e = never (a-sample x) (numberOf r) (sym e)
+told-item (Q.the-variants.Refused r) Q.the-variants.End e = never no-item (numberOf r) (sym e)
+told-item (Q.the-variants.Refused r) (Q.the-variants.Refused s) e = ap Q.the-variants.Refused (number-one r s (refused-one (numberOf r) (numberOf s) e))
+
+-- ---- the calls
+
+leaves-one : (o : Option ℕ) (d : QoaDecoder) (v : View) (a b : QoaDecoder) → Leaves o d v a → Leaves o d v b → view a ≡ view b
+leaves-one none d v a b p q = p ∙ sym q
+leaves-one (some n) d v a b p q = ap view (p ∙ sym q)
+
+pub decode-into-settled : (bs : List ℕ) (d : QoaDecoder) (out : List ℤ) (r s : DecodedInto) (o p : List ℤ) → IntoDone bs d out r o → IntoDone bs d out s p
+    → (r .answer ≡ s .answer) × (view (r .state) ≡ view (s .state)) × (o ≡ p)
+decode-into-settled bs d out r s o p x y =
+    (told-into (r .answer) (s .answer) (x .told ∙ sym (y .told)),
+    leaves-one (firstOf (intoRules bs (view d) (length out))) d (intoAfter bs (view d) (length out)) (r .state) (s .state) (x .left) (y .left),
+    x .stored ∙ sym (y .stored))
+
+pub next-frame-settled : (bs : List ℕ) (d : QoaDecoder) (r s : NextFrame) → NextDone bs d r → NextDone bs d s → (r .answer ≡ s .answer) × (view (r .state) ≡ view (s .state))
+next-frame-settled bs d r s x y =
+    (told-frame (r .answer) (s .answer) (x .told ∙ sym (y .told)), leaves-one (firstOf (nextRules bs (view d))) d (nextAfter bs (view d)) (r .state) (s .state) (x .left) (y .left))
+
+pub next-item-settled : (bs : List ℕ) (d : QoaDecoder) (r s : NextItem) → ItemDone bs d r → ItemDone bs d s → (r .item ≡ s .item) × (view (r .state) ≡ view (s .state))
+next-item-settled bs d r s x y =
+    (told-item (r .item) (s .item) (x .told ∙ sym (y .told)), leaves-one (firstOf (itemRules bs (view d))) d (itemAfter bs (view d)) (r .state) (s .state) (x .left) (y .left))

@@ -1,0 +1,111 @@
+-- The item step: pending samples before all else, then the first header, the samples of the frame, and the next frame. Assumes nothing.
+use Prim.Native.Nat.{ℕ, _+_, _-_, _*_}
+use mathlib.Core.Path.{_≡_}
+use mathlib.Core.Bool.{Bool, true, false, not, cond}
+use mathlib.Core.List.{List, [], _∷_}
+use lib.Dec.{eqb, ltb}
+use lib.IntN.{ℤ, pos}
+use lib.ListN.{getD, length}
+use Rattle.word.specs.Rules.{Answer, good, refused, Rule, _gives_, after, firstOf}
+use Rattle.header.specs.Refusals.{numberOf}
+use Rattle.state.specs.View.{View, view, waiting}
+use Rattle.state.specs.States.{goodState}
+use Rattle.state.specs.declared.QoaDecoder.{QoaDecoder}
+use Rattle.decoder.specs.Left.{Leaves}
+use Rattle.decoder.specs.Into.{comingAt, groupsEnd, takenFrom}
+use Rattle.decoder.specs.Frames.{Found, a-frame, no-frame, enterRules, enteredOr, foundAt}
+use Rattle.state.specs.declared.FrameFacts.{FrameFacts}
+use Rattle.decoder.specs.declared.NextItem.{NextItem}
+use Rattle.decoder.specs.declared.QoaItem.{QoaItem}
+use Rattle.decoder.specs.declared.QoaItem.the-variants.{Header, Sample, End, Refused}
+
+-- what is given
+pub data Item : Type 0 where
+  a-header : FrameFacts → Item
+  a-sample : ℤ → Item
+  no-item : Item
+
+-- which of the four it is
+pub data Turn : Type 0 where
+  from-pending first-header from-group from-next : Turn
+
+unfoldable pub turnOf : View → Turn
+turnOf v = cond (ltb 0 (waiting v)) from-pending (cond (not (v .given)) first-header (cond (ltb 0 (v .remaining)) from-group from-next))
+
+-- a state with no sample pending, or with its flag as it was
+abbrev pub settled : View → View
+settled v = record {
+  mode = v .mode;
+  at = v .at;
+  frame = v .frame;
+  remaining = v .remaining;
+  next = 0;
+  end = 0;
+  pending = [];
+  given = true;
+  lms = v .lms;
+}
+
+abbrev pub flagged : Bool → View → View
+flagged given v = record {
+  mode = v .mode;
+  at = v .at;
+  frame = v .frame;
+  remaining = v .remaining;
+  next = v .next;
+  end = v .end;
+  pending = v .pending;
+  given = given;
+  lms = v .lms;
+}
+
+-- 5 where the group that the step needs is cut; the next frame's refusals
+abbrev pub turnRules : Turn → List ℕ → View → List Rule
+turnRules from-pending bs v = []
+turnRules first-header bs v = []
+turnRules from-group bs v = (ltb (length bs) (groupsEnd v 1) gives 5) ∷ []
+turnRules from-next bs v = enterRules bs v
+
+abbrev pub itemIn : Found → Item
+itemIn (a-frame f) = a-header f
+itemIn no-frame = no-item
+
+abbrev pub turnItem : Turn → List ℕ → View → Item
+turnItem from-pending bs v = a-sample (comingAt bs v 0)
+turnItem first-header bs v = a-header (v .frame)
+turnItem from-group bs v = a-sample (comingAt bs v 0)
+turnItem from-next bs v = itemIn (foundAt bs v)
+
+abbrev pub turnAfter : Turn → List ℕ → View → View
+turnAfter from-pending bs v = flagged (v .given) (takenFrom bs v 0 1)
+turnAfter first-header bs v = settled v
+turnAfter from-group bs v = takenFrom bs v 1 1
+turnAfter from-next bs v = enteredOr bs (settled v)
+
+-- ---- the call
+
+unfoldable pub itemRules : List ℕ → View → List Rule
+itemRules bs v = (not (goodState v (length bs)) gives 8) ∷ turnRules (turnOf v) bs v
+
+unfoldable pub itemOf : List ℕ → View → Item
+itemOf bs v = turnItem (turnOf v) bs v
+
+unfoldable pub itemAfter : List ℕ → View → View
+itemAfter bs v = turnAfter (turnOf v) bs v
+
+-- what the code's item tells
+abbrev pub toldItem : QoaItem → Answer Item
+toldItem (Header f) = good (a-header f)
+toldItem (Sample x) = good (a-sample x)
+toldItem End = good no-item
+toldItem (Refused r) = refused (numberOf r)
+
+-- what one of the four turns promises, of a state whose turn it is
+pub record TurnDone (turn : Turn) (bs : List ℕ) (d : QoaDecoder) (r : NextItem) : Type 0 where
+  pub told : toldItem (r .item) ≡ after (turnRules turn bs (view d)) (good (turnItem turn bs (view d)))
+  pub left : Leaves (firstOf (turnRules turn bs (view d))) d (turnAfter turn bs (view d)) (r .state)
+
+-- what the call promises: its item and its state
+pub record ItemDone (bs : List ℕ) (d : QoaDecoder) (r : NextItem) : Type 0 where
+  pub told : toldItem (r .item) ≡ after (itemRules bs (view d)) (good (itemOf bs (view d)))
+  pub left : Leaves (firstOf (itemRules bs (view d))) d (itemAfter bs (view d)) (r .state)
