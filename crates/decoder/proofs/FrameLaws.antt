@@ -100,11 +100,30 @@ module _ (bs : List ℕ) (d : QoaDecoder) where
       lms-is =
           table-ext (h .channels) (lmsOf (written (λ j. lmsAt bs (place + 8 + 16 * j)) (d .lms) 0 1 (h .channels))) (λ j. lmsAt bs (place + 8 + 16 * j))
           (λ j used. rw (zero-add, mul-one) at (written-at (λ j. lmsAt bs (place + 8 + 16 * j)) (d .lms) 0 1 (h .channels) j noLms (omega arith) used (omega (arith, mul-one j))))
+
       same : _≡_ {A = View}
-          (record { mode = d .mode; at = place + stateEnd (h .channels); frame = factsIn h; remaining = h .samples; next = 0; end = 0; pending = []; given = true;
-          lms = table (h .channels) (lmsOf (written (λ j. lmsAt bs (place + 8 + 16 * j)) (d .lms) 0 1 (h .channels))) })
-          (record { mode = d .mode; at = place + stateEnd (h .channels); frame = factsIn h; remaining = h .samples; next = 0; end = 0; pending = []; given = true;
-          lms = table (h .channels) (λ j. lmsAt bs (place + 8 + 16 * j)) })
+          (record {
+            mode = d .mode;
+            at = place + stateEnd (h .channels);
+            frame = factsIn h;
+            remaining = h .samples;
+            next = 0;
+            end = 0;
+            pending = [];
+            given = true;
+            lms = table (h .channels) (lmsOf (written (λ j. lmsAt bs (place + 8 + 16 * j)) (d .lms) 0 1 (h .channels)));
+          })
+          (record {
+            mode = d .mode;
+            at = place + stateEnd (h .channels);
+            frame = factsIn h;
+            remaining = h .samples;
+            next = 0;
+            end = 0;
+            pending = [];
+            given = true;
+            lms = table (h .channels) (λ j. lmsAt bs (place + 8 + 16 * j));
+          })
       same =
           λ i. record {
             mode = d .mode;

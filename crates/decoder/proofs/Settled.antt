@@ -78,10 +78,11 @@ leaves-one (some n) d v a b p q = ap view (p ∙ sym q)
 
 pub decode-into-settled : (bs : List ℕ) (d : QoaDecoder) (out : List ℤ) (r s : DecodedInto) (o p : List ℤ) → IntoDone bs d out r o → IntoDone bs d out s p
     → (r .answer ≡ s .answer) × (view (r .state) ≡ view (s .state)) × (o ≡ p)
-decode-into-settled bs d out r s o p x y =
-    (told-into (r .answer) (s .answer) (x .told ∙ sym (y .told)),
-    leaves-one (firstOf (intoRules bs (view d) (length out))) d (intoAfter bs (view d) (length out)) (r .state) (s .state) (x .left) (y .left),
-    x .stored ∙ sym (y .stored))
+decode-into-settled bs d out r s o p x y = (
+  told-into (r .answer) (s .answer) (x .told ∙ sym (y .told)),
+  leaves-one (firstOf (intoRules bs (view d) (length out))) d (intoAfter bs (view d) (length out)) (r .state) (s .state) (x .left) (y .left),
+  x .stored ∙ sym (y .stored),
+)
 
 pub next-frame-settled : (bs : List ℕ) (d : QoaDecoder) (r s : NextFrame) → NextDone bs d r → NextDone bs d s → (r .answer ≡ s .answer) × (view (r .state) ≡ view (s .state))
 next-frame-settled bs d r s x y =

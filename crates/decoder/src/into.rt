@@ -12,7 +12,8 @@ ghost use Rattle.state.specs.States.{goodState};
 ghost use Rattle.decoder.specs.Items.{flagged};
 ghost use Rattle.decoder.specs.declared.IntoAnswer.the-variants.{Refused};
 ghost use Rattle.decoder.specs.Into.{IntoDone, comingAt, groupsEnd, groupsFor, rangeEnd, rangeNext, takenFrom};
-use crate::{DecodedInto, IntoAnswer};
+use crate::DecodedInto;
+use crate::IntoAnswer;
 use header::frame::QOA_SLICE_LEN;
 use header::refusal::Refusal;
 use state::PENDING;
@@ -58,7 +59,11 @@ fn copy_out(from: &[i16; PENDING], next: usize, n: usize, out: &mut [i16], start
 fn last_samples(rest: usize, left: usize) -> usize
     ensures { λ r. ⌜ (rest ≡ 0 → r ≡ 0) × (0 < rest → r ≡ min 20 left) ⌝ }
 {
-    if rest == 0 { 0 } else { lesser(QOA_SLICE_LEN, left) }
+    if rest == 0 {
+        0
+    } else {
+        lesser(QOA_SLICE_LEN, left)
+    }
 }
 
 // The pending samples, and `more` after them: whole groups straight into `out`, and the last one aside where a part of it stays pending.

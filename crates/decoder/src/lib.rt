@@ -4,10 +4,9 @@ pub mod into;
 pub mod items;
 
 pub use frames::next_frame;
+use header::refusal::Refusal;
 pub use into::decode_into;
 pub use items::next_item;
-
-use header::refusal::Refusal;
 use state::FrameFacts;
 use state::QoaDecoder;
 

@@ -97,7 +97,7 @@ module _ (v : View) (samples : List ℤ) where
   module _ (some-channels : 0 < v .channels) (long : length samples ≡ v .total * v .channels) where
     -- ---- lengths
 
-    chunk-long : (f : ℕ) → 5120 * f ≤ v .total → length (chunk (v .channels) samples f) ≡ countIn (v .total) f * v .channels
+    pub chunk-long : (f : ℕ) → 5120 * f ≤ v .total → length (chunk (v .channels) samples f) ≡ countIn (v .total) f * v .channels
     unfolding chunk
     chunk-long f h =
         let c = v .channels in

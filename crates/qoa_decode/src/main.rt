@@ -87,29 +87,36 @@ fn fill(buffer: &mut [u8]) -> Got
     }
 }
 
-// Reads on to the end of the input or past the most bytes of a file. Answers how many bytes there were in all.
-fn drain(read: u64, buffer: &mut [u8]) -> u64 {
+// How long an input is, and whether a read failed.
+struct Length {
+    all: u64,
+    failed: bool,
+}
+
+// Reads on to the end of the input or past the most bytes of a file.
+fn drain(read: u64, buffer: &mut [u8]) -> Length {
     let mut all = read;
     while all <= MOST_BYTES {
         let got = read_once(buffer);
         if got.failed {
-            say(b"read failed\n");
-            return 0;
+            return Length { all, failed: true };
         }
         if got.count == 0 {
             break;
         }
         all += got.count as u64;
     }
-    all
+    Length { all, failed: false }
 }
 
 // Says a refusal's number, or 9 where the input is too long.
 fn refuse(refusal: Refusal, read: u64, buffer: &mut [u8]) -> Run {
-    let all = drain(read, buffer);
-    if MOST_BYTES < all {
+    let length = drain(read, buffer);
+    if length.failed {
+        say(b"read failed\n");
+    } else if MOST_BYTES < length.all {
         say_number(header::number(Refusal::InputTooLong));
-    } else if 0 < all {
+    } else {
         say_number(header::number(refusal));
     }
     stopped()
@@ -199,11 +206,17 @@ fn play(frame: &[u8], block: &mut [i16], bytes: &mut [u8]) -> bool {
     true
 }
 
-// The rest of a frame with a good header: it is read and written where it fits the buffer and the file.
-fn body(run: Run, h: FrameHeader, size: usize, buffer: &mut [u8], block: &mut [i16], bytes: &mut [u8]) -> Run {
+// The slices of a frame that fits the buffer and the file, then its samples.
+fn rest(
+    run: Run,
+    h: FrameHeader,
+    size: usize,
+    buffer: &mut [u8],
+    block: &mut [i16],
+    bytes: &mut [u8],
+) -> Run {
     let start = header::state_end(h.channels as usize);
     if buffer.len() < size {
-        say(b"frame too large\n");
         return stopped();
     }
     if size < start {
@@ -213,7 +226,7 @@ fn body(run: Run, h: FrameHeader, size: usize, buffer: &mut [u8], block: &mut [i
         return stopped();
     }
     if MOST_BYTES - run.read < size as u64 {
-        return refuse(Refusal::Truncated, run.read + start as u64, buffer);
+        return stopped();
     }
     let got = fill(&mut buffer[start..size]);
     if got.failed {
@@ -221,7 +234,8 @@ fn body(run: Run, h: FrameHeader, size: usize, buffer: &mut [u8], block: &mut [i
         return stopped();
     }
     if got.count < size - start {
-        return refuse(Refusal::Truncated, run.read + (start + got.count) as u64, buffer);
+        let read = run.read + (start + got.count) as u64;
+        return refuse(Refusal::Truncated, read, buffer);
     }
     if !play(&buffer[0..size], block, bytes) {
         return stopped();
@@ -233,6 +247,46 @@ fn body(run: Run, h: FrameHeader, size: usize, buffer: &mut [u8], block: &mut [i
         channels: h.channels,
         rate: h.rate,
     }
+}
+
+// A frame with good checks, of which so many bytes were read: too large for the buffer, cut, or to be read on.
+fn body(
+    run: Run,
+    h: FrameHeader,
+    part: usize,
+    buffer: &mut [u8],
+    block: &mut [i16],
+    bytes: &mut [u8],
+) -> Run {
+    let size = header::frame_length(h.channels as usize, h.samples as usize);
+    if buffer.len() < size {
+        say(b"frame too large\n");
+        return stopped();
+    }
+    if MOST_BYTES < run.read {
+        return stopped();
+    }
+    if 4096 < part {
+        return stopped();
+    }
+    let read = run.read + part as u64;
+    if part < header::state_end(h.channels as usize) {
+        return refuse(Refusal::Truncated, read, buffer);
+    }
+    if MOST_BYTES - run.read < size as u64 {
+        return refuse(Refusal::Truncated, read, buffer);
+    }
+    rest(run, h, size, buffer, block, bytes)
+}
+
+// How much of the frame the checks may take for there: in fixed mode the predictor state is not read before them.
+fn left_for(run: Run, h: FrameHeader, part: usize) -> usize {
+    if !run.fixed {
+        if part < header::state_end(h.channels as usize) {
+            return part;
+        }
+    }
+    header::frame_length(h.channels as usize, h.samples as usize)
 }
 
 // The first frame of the file, or this one where there was none.
@@ -254,7 +308,6 @@ fn first_for(run: Run, h: FrameHeader) -> First {
 // A frame whose header was read: its predictor state, and the checks. Whole-file decoding's refusals come in its order.
 fn frame(run: Run, h: FrameHeader, buffer: &mut [u8], block: &mut [i16], bytes: &mut [u8]) -> Run {
     let end = header::state_end(h.channels as usize);
-    let size = header::frame_length(h.channels as usize, h.samples as usize);
     if buffer.len() < end {
         return stopped();
     }
@@ -270,12 +323,11 @@ fn frame(run: Run, h: FrameHeader, buffer: &mut [u8], block: &mut [i16], bytes: 
         return stopped();
     }
     let part = 8 + got.count;
-    let left = if part < end { part } else { size };
     let read = run.read + part as u64;
     let first = first_for(run, h);
-    match whole::survey::check_frame(h, left, Kind::Like(first)) {
+    match whole::survey::check_frame(h, left_for(run, h, part), Kind::Like(first)) {
         Checked::Refused(refusal) => refuse(refusal, read, buffer),
-        Checked::Passed => body(run, h, size, buffer, block, bytes),
+        Checked::Passed => body(run, h, part, buffer, block, bytes),
     }
 }
 

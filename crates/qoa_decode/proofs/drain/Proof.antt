@@ -7,22 +7,16 @@ use Rattle.qoa_decode.proofs.drain.Statement.{statement}
 use Rattle.qoa_decode.proofs.drain.Tie as tie
 
 abbrev Inv-loop : tie.InvT-loop
-Inv-loop read buffer₀ all₀ t5 buffer all = (length buffer ≡ length buffer₀)
+Inv-loop read buffer₀ all₀ buffer all = length buffer ≡ length buffer₀
 
 abbrev μ-loop : tie.MeasureT-loop
-μ-loop read buffer₀ all₀ t5 buffer all = 4294967296 - all
+μ-loop read buffer₀ all₀ buffer all = 4294967296 - all
 
 loop-holds : tie.Need-loop-holds Inv-loop μ-loop
 loop-holds c = search needs
 
 read-once-requires : tie.Need-read-once-requires Inv-loop μ-loop
 read-once-requires c κs = search needs
-
-slice-aggregate-say : tie.Need-slice-aggregate-say Inv-loop μ-loop
-slice-aggregate-say c = search needs
-
-say-requires : tie.Need-say-requires Inv-loop μ-loop
-say-requires c κs = search needs
 
 same-length : tie.Need-same-length Inv-loop μ-loop
 same-length c = search needs
@@ -59,8 +53,6 @@ drain-spec =
     μ-loop
     loop-holds
     read-once-requires
-    slice-aggregate-say
-    say-requires
     same-length
     returns
     add-all

@@ -61,7 +61,6 @@ place-is c = ap (λ (k : ℕ). start-of c .args .d .at + 8 * (k * start-of c .ar
 slices-small : (c : tie.After-slices-of) → c .slices-of .result * start-of c .args .d .frame .channels ≤ 3277 * 8
 slices-small c = mul-le-mul {n₂ = 3277} {m₂ = 8} (omega (arith, c .slices-of .ensures, slices-most (start-of c .args .d .remaining) (small (start-of c)))) (facts (first-of c) .few-channels)
 
-
 cast-channels : tie.Need-cast-channels
 cast-channels c = search needs
 

@@ -39,7 +39,6 @@ group-there c =
     let within : (c .before .loop .g + 1) * start .args .channels ≤ start .args .groups * start .args .channels = mul-le-mul-right (start .args .channels) (omega (arith, c .loop-test .taken)) in
     omega (arith, start .pre)
 
-
 mul-place : tie.Need-mul-place Inv-loop μ-loop
 mul-place c = omega (arith, group-there c, c .before .before .before .before .good)
 

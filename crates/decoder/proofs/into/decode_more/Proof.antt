@@ -298,10 +298,10 @@ returns c =
     let place : kept start + whole start * (20 * channels start) ≡ kept start + 20 * whole start * channels start = omega arith in
     let count : kept start + start .args .more ≡ kept start + 20 * whole start * channels start + rest start = omega (arith, parts start) in (
       rw (c .slices-of .ensures, range .0, range .1, last .ensures .0, last .ensures .1, run)
-      (view-more-left bs d s (start .pre .1 .0 .0) used aside fits),
+          (view-more-left bs d s (start .pre .1 .0 .0) used aside fits),
       c .before .before .before .copy-out2 .ensures
-      ∙ stored-from bs d (some-channels start) used (whole start) m aside fits (start .args .out .now) _ _ _ _ (rest start) (rest-le s)
-      fresh-is (second-out (told .before .before .before)) place count,
+          ∙ stored-from bs d (some-channels start) used (whole start) m aside fits (start .args .out .now) _ _ _ _ (rest start) (rest-le s)
+          fresh-is (second-out (told .before .before .before)) place count,
     )
 
 pub decode-more-spec : {M : Type 1} → statement M

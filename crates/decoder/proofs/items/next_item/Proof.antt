@@ -32,7 +32,6 @@ is-good c = sym (c .before .is-good .ensures) ∙ not-false _ (c .if1 .left)
 facts : (c : tie.Else1) → Sound (c .before .before .before .args .d) (length (c .before .before .before .args .bytes .now))
 facts c = sound _ _ (is-good c)
 
-
 pending-item-requires : tie.Need-pending-item-requires
 pending-item-requires c κs = let s = facts (c .before) in (c .if2 .taken, omega (arith, s .one-group, s .few-channels))
 

@@ -1,0 +1,12 @@
+-- The theorems are in Answer; what they rest on stands above it, from a channel up.
+pub mod Channels
+pub mod Predictors
+pub mod Blocks
+pub mod Frames
+pub mod Files
+pub mod Taking
+pub mod OneShots
+pub mod Finishing
+pub mod Outputs
+pub mod Examples
+pub mod Answer

@@ -1,0 +1,2 @@
+-- What the theorems cite.
+pub mod Finished

@@ -1,0 +1,1 @@
+// What the writer wrote is what the reader hears: theorems over the definitions of both sides.
