@@ -1,8 +1,7 @@
 -- The samples to come: the pending ones, then those of the groups from the place on. Assumes nothing.
-use mathlib.Core.Path.{_≡_, refl, ap, ap₂, sym, _∙_}
-use mathlib.Core.Bool.{true, false, cond}
+use mathlib.Core.Path.{_≡_, ap, sym, _∙_}
 use mathlib.Core.List.{List}
-use Prim.Native.Nat.{ℕ, zero, suc, _+_, _-_, _*_, _/_, _%_, _≤_, _<_}
+use Prim.Native.Nat.{ℕ, _+_, _-_, _*_, _/_, _%_, _≤_, _<_}
 use native.Mathlib.Nat.{mod-lt, mul-one, zero-add}
 use native.Mathlib.Omega.{arith}
 use borrow.Author.Tests.{le-ltb, lt-ltb}
@@ -16,7 +15,7 @@ use Rattle.header.specs.Predictor.{lmsOf}
 use Rattle.slice.specs.Channel.{channelAt, runAfter}
 use Rattle.slice.specs.Groups.{groupsAt, groupsStates, sliceWord}
 use Rattle.slice.proofs.GroupLaws.{groups-lms, groups-shift}
-use Rattle.state.specs.View.{View, view, waiting}
+use Rattle.state.specs.View.{view, waiting}
 use Rattle.state.specs.declared.QoaDecoder.{QoaDecoder}
 use Rattle.state.proofs.Views.{view-lms, view-pending}
 use Rattle.decoder.specs.Into.{comingAt, groupsLms}

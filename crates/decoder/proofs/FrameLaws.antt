@@ -1,18 +1,18 @@
 -- The state after what remains is dropped, and at the start of a frame, as the code leaves it. Assumes nothing.
-use mathlib.Core.Path.{_≡_, refl, ap, sym, _∙_}
-use mathlib.Core.Bool.{Bool, true, false, cond, not}
-use mathlib.Core.List.{List, [], _∷_, _++_}
+use mathlib.Core.Path.{_≡_, refl, ap, _∙_}
+use mathlib.Core.Bool.{Bool, true, false, cond}
+use mathlib.Core.List.{List, [], _++_}
 use mathlib.Core.Logic.{dite}
-use mathlib.Core.Option.{Option, none, some}
-use Prim.Native.Nat.{ℕ, _+_, _-_, _*_, _≤_, _<_}
+use mathlib.Core.Option.{none, some}
+use Prim.Native.Nat.{ℕ, _+_, _*_, _≤_, _<_}
 use native.Mathlib.Decide.{decLt}
 use native.Mathlib.Nat.{mul-one, zero-add}
 use native.Mathlib.Omega.{arith}
 use borrow.Author.Tests.{le-ltb, lt-ltb}
 use lib.Dec.{ltb}
-use lib.ListN.{getD, length}
+use lib.ListN.{length}
 use lib.Seq.{ext-getD}
-use Rattle.word.specs.Rules.{Answer, good, refused, Rule, _gives_, after, firstOf}
+use Rattle.word.specs.Rules.{Rule, after, firstOf}
 use Rattle.word.specs.Written.{table, written}
 use Rattle.word.proofs.Rules.{fires, fires-left, fires-right, none-fires, quiet, quiet-parts}
 use Rattle.word.proofs.Tables.{table-ext}
@@ -30,16 +30,15 @@ use Rattle.header.specs.declared.frame.FrameHeader.{FrameHeader}
 use Rattle.header.specs.declared.refusal.Refusal.{Refusal}
 use Rattle.header.specs.declared.refusal.Refusal.the-variants.{BadState, Truncated}
 use Rattle.slice.specs.Channel.{runAfter}
-use Rattle.slice.specs.Groups.{groupsStates, sliceWord}
+use Rattle.slice.specs.Groups.{groupsStates}
 use Rattle.slice.proofs.GroupLaws.{groups-lms, groups-other, length-groups}
 use Rattle.state.specs.View.{View, factsIn, view}
 use Rattle.state.specs.States.{goodState}
 use Rattle.state.specs.declared.QoaDecoder.{QoaDecoder}
 use Rattle.state.specs.declared.ProcessingMode.{ProcessingMode}
 use Rattle.state.specs.declared.ProcessingMode.the-variants.{FixedSamples, Streaming}
-use Rattle.decoder.specs.Left.{Leaves}
 use Rattle.decoder.specs.Into.{groupsEnd}
-use Rattle.decoder.specs.Frames.{EnterDone, NextDone, a-frame, dropped, enterRules, entered, enteredOr, foundAt, frameRules, modeRules, nextRules, toldFrame}
+use Rattle.decoder.specs.Frames.{EnterDone, NextDone, a-frame, dropped, enterRules, entered, enteredOr, foundAt, frameRules, modeRules, nextRules}
 use Rattle.decoder.specs.declared.NextFrame.{NextFrame}
 use Rattle.decoder.specs.declared.FrameAnswer.the-variants.{Frame, End, Refused}
 use Rattle.decoder.proofs.Coming.{lms-after}

@@ -1,25 +1,24 @@
 -- A state that an accepted call hands back passes the state rules for the same bytes. Assumes nothing.
-use mathlib.Core.Path.{_≡_, refl, ap, sym, _∙_}
+use mathlib.Core.Path.{_≡_, refl}
 use mathlib.Core.Bool.{Bool, true, false, cond, not}
-use mathlib.Core.List.{List, [], _∷_}
+use mathlib.Core.List.{List}
 use mathlib.Core.Logic.{dite}
-use mathlib.Core.Option.{Option, none, some}
+use mathlib.Core.Option.{none, some}
 use Prim.Native.Nat.{ℕ, zero, suc, _+_, _-_, _*_, _/_, _≤_, _<_, min}
 use native.Mathlib.Decide.{decLt}
 use native.Mathlib.Nat.{div-lt-iff-lt-mul, div-zero, le-refl, min-le-left, mul-le-mul-right}
 use native.Mathlib.Omega.{arith}
-use borrow.Author.Tests.{eq-eqb, le-ltb, lt-ltb, ltb-false, ltb-true, ne-eqb}
+use borrow.Author.Tests.{le-ltb, lt-ltb, ne-eqb}
 use lib.Dec.{T, eqb, ltb}
 use lib.ListN.{length}
-use Rattle.word.specs.Rules.{Rule, firstOf}
-use Rattle.word.proofs.Rules.{Quiet, none-fires, quiet, quiet-parts}
+use Rattle.word.specs.Rules.{firstOf}
+use Rattle.word.proofs.Rules.{Quiet, none-fires, quiet}
 use Rattle.word.proofs.Tables.{getD-table}
-use Rattle.word.proofs.Tests.{nnot, tests}
+use Rattle.word.proofs.Tests.{tests}
 use Rattle.lms.specs.Predictor.{HistoryFits, WeightsWithin}
 use Rattle.lms.proofs.Bounds.{within-more}
-use Rattle.header.specs.Format.{maxChannels, slicesOf, stateEnd}
-use Rattle.header.specs.Header.{headerAt, headerRules, leftAt}
-use Rattle.header.specs.Part.{cutRules}
+use Rattle.header.specs.Format.{slicesOf}
+use Rattle.header.specs.Header.{headerAt, leftAt}
 use Rattle.header.specs.Predictor.{lmsOf, noLms}
 use Rattle.header.proofs.Fields.{AreBytes}
 use Rattle.header.proofs.Headers.{passes}
@@ -27,14 +26,14 @@ use Rattle.slice.specs.Channel.{runAfter}
 use Rattle.slice.specs.Groups.{sliceWord}
 use Rattle.slice.proofs.Fits.{run-fits}
 use Rattle.slice.proofs.Growth.{run-within}
-use Rattle.state.specs.View.{View, channelsOf, total, waiting}
+use Rattle.state.specs.View.{View, channelsOf, waiting}
 use Rattle.state.specs.States.{goodState, weightBound}
 use Rattle.state.proofs.Bounds.{bound-grows}
 use Rattle.state.proofs.GoodStates.{Good, facts-good, good-facts}
 use Rattle.state.proofs.OpenedStates.{read-good}
-use Rattle.decoder.specs.Into.{before, endAfter, groupsEnd, groupsFor, groupsLms, groupsSamples, intoAfter, intoCount, intoGroups, intoRules, nextAfter, takenFrom}
+use Rattle.decoder.specs.Into.{endAfter, groupsEnd, groupsFor, groupsLms, groupsSamples, intoAfter, intoCount, intoGroups, intoRules, nextAfter, takenFrom}
 use Rattle.decoder.specs.Frames as Frames
-use Rattle.decoder.specs.Frames.{dropped, enterRules, entered, enteredOr, frameRules, modeRules, nextRules}
+use Rattle.decoder.specs.Frames.{dropped, enterRules, entered, enteredOr, frameRules, nextRules}
 use Rattle.decoder.specs.Items.{Turn, first-header, flagged, from-group, from-next, from-pending, itemAfter, itemRules, settled, turnAfter, turnOf, turnRules}
 use Rattle.decoder.proofs.Counts.{slices-cover}
 use Rattle.decoder.proofs.FrameLaws.{frame-passed}

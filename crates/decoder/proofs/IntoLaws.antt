@@ -1,14 +1,13 @@
 -- Each way out of decode_into keeps its promise. Assumes nothing.
 use mathlib.Core.Path.{_≡_, refl, ap, sym, _∙_}
-use mathlib.Core.Bool.{Bool, true, false, not}
-use mathlib.Core.List.{List, [], _∷_}
-use mathlib.Core.Option.{Option, none, some}
-use Prim.Native.Nat.{ℕ, _+_, _-_, _*_, _≤_, _<_, min}
+use mathlib.Core.Bool.{true, false}
+use mathlib.Core.List.{List}
+use mathlib.Core.Option.{none, some}
+use Prim.Native.Nat.{ℕ, _+_, _-_, _*_, _≤_, _<_}
 use native.Mathlib.Omega.{arith}
-use lib.Dec.{T, ltb}
 use lib.IntN.{ℤ, pos}
 use lib.ListN.{getD, length}
-use Rattle.word.specs.Rules.{Answer, good, refused, Rule, _gives_, after, firstOf}
+use Rattle.word.specs.Rules.{Rule, firstOf}
 use Rattle.word.specs.Written.{written}
 use Rattle.word.proofs.Rules.{fires, none-fires}
 use Rattle.word.proofs.Writes.{written-ext}
@@ -18,8 +17,7 @@ use Rattle.state.specs.View.{view, waiting}
 use Rattle.state.specs.States.{goodState}
 use Rattle.state.specs.declared.QoaDecoder.{QoaDecoder}
 use Rattle.state.proofs.GoodStates.{good-facts}
-use Rattle.decoder.specs.Left.{Leaves}
-use Rattle.decoder.specs.Into.{IntoDone, comingAt, groupsEnd, groupsFor, intoAfter, intoCount, intoGroups, intoRules, storedUnless, takenFrom, toldInto}
+use Rattle.decoder.specs.Into.{IntoDone, comingAt, groupsEnd, groupsFor, intoAfter, intoCount, intoGroups, intoRules, takenFrom}
 use Rattle.decoder.specs.Items.{flagged}
 use Rattle.decoder.specs.declared.DecodedInto.{DecodedInto}
 use Rattle.decoder.specs.declared.IntoAnswer.the-variants.{Count, Refused}

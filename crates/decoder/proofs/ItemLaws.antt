@@ -1,38 +1,35 @@
 -- Each turn of the item step keeps its promise, and the call that takes it. Assumes nothing.
 use mathlib.Core.Path.{_≡_, refl, ap, sym, _∙_}
-use mathlib.Core.Bool.{Bool, true, false, cond, not}
-use mathlib.Core.List.{List, [], _∷_}
+use mathlib.Core.Bool.{true, false}
+use mathlib.Core.List.{List}
 use mathlib.Core.Option.{Option, none, some}
-use Prim.Native.Nat.{ℕ, zero, suc, _+_, _-_, _*_, _≤_, _<_}
-use native.Mathlib.Nat.{add-zero, mul-one}
+use Prim.Native.Nat.{ℕ, _+_, _-_, _*_, _≤_, _<_}
+use native.Mathlib.Nat.{add-zero}
 use native.Mathlib.Omega.{arith}
 use borrow.Author.Tests.{le-ltb, lt-ltb}
 use lib.Dec.{ltb}
 use lib.IntN.{ℤ, pos}
 use lib.ListN.{getD, length}
-use Rattle.word.specs.Rules.{Answer, good, refused, Rule, _gives_, after, firstOf, unless}
+use Rattle.word.specs.Rules.{Answer, good, refused, firstOf, unless}
 use Rattle.word.specs.Written.{table, written}
 use Rattle.word.proofs.Rules.{fires, good-same, none-fires}
 use Rattle.word.proofs.Tests.{tests}
 use Rattle.word.proofs.Writes.{written-at}
-use Rattle.header.specs.Header.{leftAt}
 use Rattle.header.specs.Refusals.{numberOf}
 use Rattle.header.proofs.Told.{never, refused-one}
 use Rattle.header.specs.declared.refusal.Refusal.the-variants.{BadState, Truncated}
-use Rattle.state.specs.View.{View, view, waiting}
+use Rattle.state.specs.View.{view, waiting}
 use Rattle.state.specs.States.{goodState}
 use Rattle.state.specs.declared.QoaDecoder.{QoaDecoder}
-use Rattle.decoder.specs.Left.{Leaves}
-use Rattle.decoder.specs.Into.{comingAt, groupsEnd, groupsFor, takenFrom}
+use Rattle.decoder.specs.Into.{comingAt, groupsFor, takenFrom}
 use Rattle.decoder.specs.Frames.{EnterDone, Found, a-frame, enterRules, enteredOr, foundAt, no-frame, toldFrame}
-use Rattle.decoder.specs.Items.{Item, ItemDone, Turn, TurnDone, a-header, a-sample, first-header, flagged, from-group, from-next, from-pending, itemAfter, itemIn, itemOf, itemRules, no-item, settled, toldItem, turnAfter, turnItem, turnOf, turnRules}
+use Rattle.decoder.specs.Items.{Item, ItemDone, Turn, TurnDone, first-header, flagged, from-group, from-next, from-pending, itemAfter, itemIn, itemOf, itemRules, settled, toldItem, turnOf, turnRules}
 use Rattle.decoder.specs.declared.NextFrame.{NextFrame}
 use Rattle.decoder.specs.declared.NextItem.{NextItem}
 use Rattle.decoder.specs.declared.FrameAnswer as F
 use Rattle.decoder.specs.declared.QoaItem as Q
 use Rattle.decoder.proofs.Counts.{groups-one}
 use Rattle.decoder.proofs.Coming.{coming-pending}
-use Rattle.decoder.proofs.FrameLaws.{enter-end}
 
 -- a state with no sample pending
 pub view-settled : (d : QoaDecoder)

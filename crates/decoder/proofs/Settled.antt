@@ -1,17 +1,15 @@
 -- Each contract settles its call: what an answer tells is one-to-one, and any two answers that it permits are equal, with states of one view. Assumes nothing.
-use mathlib.Core.Path.{_≡_, refl, ap, sym, _∙_}
+use mathlib.Core.Path.{_≡_, ap, sym, _∙_}
 use mathlib.Core.List.{List}
 use mathlib.Core.Option.{Option, none, some}
 use Prim.Native.Nat.{ℕ}
-use native.Mathlib.Omega.{arith}
 use lib.IntN.{ℤ}
 use lib.ListN.{length}
-use Rattle.word.specs.Rules.{Answer, firstOf, good}
+use Rattle.word.specs.Rules.{firstOf, good}
 use Rattle.word.proofs.Rules.{good-same}
 use Rattle.header.specs.Refusals.{numberOf}
 use Rattle.header.proofs.Told.{never, number-one, refused-one}
 use Rattle.state.specs.View.{View, view}
-use Rattle.state.specs.declared.FrameFacts.{FrameFacts}
 use Rattle.state.specs.declared.QoaDecoder.{QoaDecoder}
 use Rattle.decoder.specs.Left.{Leaves}
 use Rattle.decoder.specs.Into.{IntoDone, intoAfter, intoRules, toldInto}

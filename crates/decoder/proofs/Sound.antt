@@ -2,16 +2,15 @@
 use mathlib.Core.Path.{_≡_, sym, _∙_}
 use mathlib.Core.Bool.{true}
 use mathlib.Core.List.{List, map}
-use Prim.Native.Nat.{ℕ, _+_, _-_, _*_, _^_, _≤_, _<_}
+use Prim.Native.Nat.{ℕ, _*_, _^_, _≤_, _<_}
 use native.Mathlib.Omega.{arith}
-use lib.Dec.{lit≤}
 use lib.ListN.{length, length-map}
 use Rattle.lms.proofs.Bounds.{within-more}
-use Rattle.header.specs.Format.{maxChannels, slicesOf}
+use Rattle.header.specs.Format.{maxChannels}
 use Rattle.slice.specs.Groups.{AllWithin, groupsStates}
 use Rattle.slice.proofs.Growth.{groups-within}
 use Rattle.state.specs.View.{view}
-use Rattle.state.specs.States.{goodState, weightBound}
+use Rattle.state.specs.States.{goodState}
 use Rattle.state.specs.declared.QoaDecoder.{QoaDecoder}
 use Rattle.state.proofs.Bounds.{bound-most}
 use Rattle.state.proofs.GoodStates.{good-facts}

@@ -1,9 +1,9 @@
 -- The state after some samples, as the code leaves it, seen by its view. Assumes nothing.
 use mathlib.Core.Path.{_≡_, refl, ap, ap₂, sym, _∙_}
-use mathlib.Core.Bool.{Bool, true, false, cond}
+use mathlib.Core.Bool.{Bool, true, false}
 use mathlib.Core.List.{List}
 use mathlib.Core.Logic.{dite}
-use Prim.Native.Nat.{ℕ, zero, suc, _+_, _-_, _*_, _≤_, _<_, min}
+use Prim.Native.Nat.{ℕ, _+_, _-_, _*_, _≤_, _<_, min}
 use native.Mathlib.Decide.{decLt}
 use native.Mathlib.Omega.{arith}
 use borrow.Author.Tests.{ne-eqb}
@@ -14,14 +14,13 @@ use Rattle.word.specs.Written.{table}
 use Rattle.word.proofs.Tables.{table-ext}
 use Rattle.lms.specs.declared.QoaLms.{QoaLms}
 use Rattle.header.specs.Format.{slicesOf}
-use Rattle.header.specs.Predictor.{lmsOf}
 use Rattle.slice.specs.Groups.{groupsStates}
 use Rattle.slice.proofs.GroupLaws.{groups-more}
 use Rattle.state.specs.View.{View, view, waiting}
 use Rattle.state.specs.declared.QoaDecoder.{QoaDecoder}
-use Rattle.decoder.specs.Into.{comingAt, endAfter, groupsEnd, groupsFor, groupsLms, groupsSamples, nextAfter, rangeEnd, rangeNext, takenFrom}
+use Rattle.decoder.specs.Into.{comingAt, endAfter, groupsFor, nextAfter, rangeEnd, rangeNext, takenFrom}
 use Rattle.decoder.specs.Items.{flagged}
-use Rattle.decoder.proofs.Counts.{Split, groups-are, groups-some, last-le, last-slices, samples-are, rest-le, slices-none}
+use Rattle.decoder.proofs.Counts.{Split, groups-are, groups-some, last-slices, samples-are}
 use Rattle.decoder.proofs.Ranges.{range-none, range-table, table-same}
 use Rattle.decoder.proofs.Coming.{coming-last, coming-pending, lastAside, lms-after, lms-same}
 

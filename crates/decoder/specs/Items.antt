@@ -1,11 +1,11 @@
 -- The item step: pending samples before all else, then the first header, the samples of the frame, and the next frame. Assumes nothing.
-use Prim.Native.Nat.{ℕ, _+_, _-_, _*_}
+use Prim.Native.Nat.{ℕ}
 use mathlib.Core.Path.{_≡_}
-use mathlib.Core.Bool.{Bool, true, false, not, cond}
+use mathlib.Core.Bool.{Bool, true, not, cond}
 use mathlib.Core.List.{List, [], _∷_}
-use lib.Dec.{eqb, ltb}
-use lib.IntN.{ℤ, pos}
-use lib.ListN.{getD, length}
+use lib.Dec.{ltb}
+use lib.IntN.{ℤ}
+use lib.ListN.{length}
 use Rattle.word.specs.Rules.{Answer, good, refused, Rule, _gives_, after, firstOf}
 use Rattle.header.specs.Refusals.{numberOf}
 use Rattle.state.specs.View.{View, view, waiting}

@@ -87,19 +87,10 @@ pub fn decode_more(d: QoaDecoder, bytes: &[u8], out: &mut [i16], more: usize) ->
     let group = QOA_SLICE_LEN * channels;
     let whole = more / group;
     let rest = more % group;
+    let full = QOA_SLICE_LEN * whole;
     let states = d.lms;
-    let run = slice::decode_groups(
-        &tab,
-        states,
-        bytes,
-        at,
-        channels,
-        QOA_SLICE_LEN * whole,
-        out,
-        kept,
-    );
-    let remaining = d.remaining as usize;
-    let left = remaining - QOA_SLICE_LEN * whole;
+    let run = slice::decode_groups(&tab, states, bytes, at, channels, full, out, kept);
+    let left = d.remaining as usize - full;
     let n = last_samples(rest, left);
     let place = at + 8 * (whole * channels);
     let mut fresh = [0i16; PENDING];

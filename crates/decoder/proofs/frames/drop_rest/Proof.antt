@@ -3,7 +3,6 @@ use mathlib.Core.Path.{_≡_, ap}
 use Prim.Native.Nat.{ℕ, _+_, _*_, _≤_}
 use native.Mathlib.Omega.{arith}
 use lib.ListN.{length}
-use Rattle.header.specs.Format.{slicesOf}
 use Rattle.state.specs.View.{view}
 use Rattle.decoder.proofs.Counts.{slices-most}
 use Rattle.decoder.proofs.FrameLaws.{view-dropped}

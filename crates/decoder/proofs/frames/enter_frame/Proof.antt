@@ -1,9 +1,7 @@
 -- `decoder::frames::enter_frame` meets its contract. Assumes nothing.
 use mathlib.Core.Path.{_≡_, refl, ap, sym, _∙_}
 use mathlib.Core.Option.{none}
-use Prim.Native.Nat.{_+_, _-_, _≤_}
 use native.Mathlib.Omega.{arith}
-use lib.ListN.{length}
 use Rattle.word.specs.Rules.{firstOf}
 use Rattle.header.specs.Header.{headerAt, leftAt}
 use Rattle.header.specs.Refusals.{toldChecked}

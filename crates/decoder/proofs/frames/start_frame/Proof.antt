@@ -1,10 +1,8 @@
 -- `decoder::frames::start_frame` meets its contract. Assumes nothing.
-use mathlib.Core.Path.{_≡_, ap, sym, _∙_}
-use Prim.Native.Nat.{_≤_}
+use mathlib.Core.Path.{_≡_}
 use native.Mathlib.Omega.{arith}
 use lib.ListN.{length}
 use Rattle.header.specs.Format.{stateEnd}
-use Rattle.state.specs.View.{view}
 use Rattle.decoder.proofs.FrameLaws.{view-started}
 use Rattle.decoder.proofs.Sound.{length-mapped}
 use borrow.Author.Needs.{needs}

@@ -1,13 +1,13 @@
 -- `decoder::into::decode_into` meets its contract. Assumes nothing.
 use mathlib.Core.Path.{_≡_, refl, ap, sym, _∙_}
-use mathlib.Core.Bool.{true, false}
+use mathlib.Core.Bool.{true}
 use Prim.Native.Nat.{ℕ, _+_, _-_, _*_, _≤_, _<_, min}
-use native.Mathlib.Nat.{min-le-left, min-le-right, mul-le-mul}
+use native.Mathlib.Nat.{mul-le-mul}
 use native.Mathlib.Omega.{arith}
 use borrow.Author.Needs.{needs}
 use borrow.Author.Tests.{not-false, not-true}
 use lib.ListN.{length}
-use Rattle.state.specs.View.{total, view, waiting}
+use Rattle.state.specs.View.{total, view}
 use Rattle.state.specs.States.{goodState}
 use Rattle.decoder.specs.Into.{groupsFor}
 use Rattle.decoder.proofs.Counts.{factor-some, groups-most}
@@ -15,15 +15,6 @@ use Rattle.decoder.proofs.IntoLaws.{into-bad, into-cut, into-more, into
 use Rattle.decoder.proofs.Sound.{Sound, sound}
 use Rattle.decoder.proofs.into.decode_into.Statement.{statement}
 use Rattle.decoder.proofs.into.decode_into.Tie as tie
-use Rattle.decoder.proofs.into.decode_into.Reads as reads
-use Rattle.decoder.proofs.into.decode_into.Lts as lts
-use Rattle.decoder.proofs.into.after_pending.Reads as after-pending-reads
-use Rattle.decoder.proofs.into.copy_out.Reads as copy-out-reads
-use Rattle.decoder.proofs.into.decode_more.Reads as decode-more-reads
-use Rattle.decoder.proofs.into.groups_for.Reads as groups-for-reads
-use Rattle.decoder.proofs.into.lesser.Reads as lesser-reads
-use Rattle.decoder.proofs.into.refused.Reads as refused-reads
-use Rattle.state.proofs.is_good.Reads as is-good-reads
 
 is-good-requires : tie.Need-is-good-requires
 is-good-requires c κs = search needs

@@ -1,7 +1,7 @@
 -- `decoder::into::decode_more` meets its contract. Assumes nothing.
-use mathlib.Core.Path.{_≡_, refl, ap, sym, _∙_}
+use mathlib.Core.Path.{_≡_, ap, _∙_}
 use mathlib.Core.List.{List}
-use Prim.Native.Nat.{ℕ, _+_, _-_, _*_, _/_, _%_, _≤_, _<_, min}
+use Prim.Native.Nat.{ℕ, _+_, _-_, _*_, _/_, _%_, _≤_, _<_}
 use native.Mathlib.Nat.{div-add-mod', mul-le-mul, mul-le-mul-right}
 use native.Mathlib.Omega.{arith}
 use borrow.Author.Needs.{needs}
@@ -13,23 +13,15 @@ use Rattle.word.proofs.Writes.{length-written}
 use Rattle.lms.specs.declared.QoaLms.{QoaLms}
 use Rattle.lms.proofs.Bounds.{within-more}
 use Rattle.header.specs.Format.{slicesOf}
-use Rattle.slice.specs.Groups.{AllWithin, groupsAt, groupsStates}
-use Rattle.state.specs.View.{view, waiting}
+use Rattle.slice.specs.Groups.{groupsAt, groupsStates}
+use Rattle.state.specs.View.{view}
 use Rattle.decoder.specs.Into.{groupsFor}
-use Rattle.decoder.proofs.Counts.{Split, factor-some, groups-are, last-few, last-le, last-slices, rest-le, slices-most, slices-whole, split-at, whole-needed, whole-there}
+use Rattle.decoder.proofs.Counts.{Split, factor-some, groups-are, last-few, last-le, rest-le, slices-whole, split-at, whole-needed, whole-there}
 use Rattle.decoder.proofs.Coming.{lastAside, stored-from}
 use Rattle.decoder.proofs.Sound.{Sound, length-mapped, run-ready, sound}
 use Rattle.decoder.proofs.Taken.{view-more-left}
 use Rattle.decoder.proofs.into.decode_more.Statement.{statement}
 use Rattle.decoder.proofs.into.decode_more.Tie as tie
-use Rattle.decoder.proofs.into.decode_more.Reads as reads
-use Rattle.decoder.proofs.into.decode_more.Lts as lts
-use Rattle.decoder.proofs.into.copy_out.Reads as copy-out-reads
-use Rattle.decoder.proofs.into.last_samples.Reads as last-samples-reads
-use Rattle.decoder.proofs.into.pending_range.Reads as pending-range-reads
-use Rattle.header.proofs.slices_of.Reads as slices-of-reads
-use Rattle.scale.proofs.dequant_tab.Reads as dequant-tab-reads
-use Rattle.slice.proofs.decode_groups.Reads as decode-groups-reads
 
 -- ---- what is known at the start
 
@@ -103,9 +95,9 @@ div-whole c = omega (arith, some-channels (c .before .before .before .before .be
 rem-rest : tie.Need-rem-rest
 rem-rest c = omega (arith, some-channels (c .before .before .before .before .before .before .before .before .before))
 
-mul-decode-groups : tie.Need-mul-decode-groups
-mul-decode-groups c =
-    let start = c .before .before .before .before .before .before .before .before .before .before .before in
+mul-full : tie.Need-mul-full
+mul-full c =
+    let start = c .before .before .before .before .before .before .before .before .before in
     omega (arith, whole-le start, small start)
 
 -- the pending samples, as they are stored
@@ -134,13 +126,8 @@ decode-groups-requires c κs =
       ),
     )
 
-cast-remaining : tie.Need-cast-remaining
-cast-remaining c = search needs
-
-mul-left : tie.Need-mul-left
-mul-left c =
-    let start = c .before .before .before .before .before .before .before .before .before .before .before .before .before .before .before in
-    omega (arith, whole-le start, small start)
+cast-left : tie.Need-cast-left
+cast-left c = search needs
 
 sub-left : tie.Need-sub-left
 sub-left c = whole-le (c .before .before .before .before .before .before .before .before .before .before .before .before .before .before .before)
@@ -315,10 +302,9 @@ decode-more-spec =
     mul-group
     div-whole
     rem-rest
-    mul-decode-groups
+    mul-full
     decode-groups-requires
-    cast-remaining
-    mul-left
+    cast-left
     sub-left
     last-samples-requires
     mul-place

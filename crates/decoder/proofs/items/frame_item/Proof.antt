@@ -1,9 +1,8 @@
 -- `decoder::items::frame_item` meets its contract. Assumes nothing.
-use mathlib.Core.Path.{_≡_, refl, ap}
+use mathlib.Core.Path.{refl, ap}
 use Rattle.state.specs.View.{view}
 use Rattle.decoder.specs.Items.{settled}
 use Rattle.decoder.specs.Frames.{EnterDone}
-use Rattle.decoder.specs.declared.NextFrame.{NextFrame}
 use Rattle.decoder.specs.declared.FrameAnswer.the-variants.{End}
 use Rattle.decoder.proofs.FrameLaws.{enter-end}
 use Rattle.decoder.proofs.ItemLaws.{itemFrom, next-turn}

@@ -1,11 +1,11 @@
 -- `decoder::items::group_item` meets its contract. Assumes nothing.
-use mathlib.Core.Path.{_≡_, refl}
-use mathlib.Core.List.{List, [], _∷_}
-use Prim.Native.Nat.{ℕ, _+_, _*_, _≤_, _<_}
+use mathlib.Core.Path.{refl}
+use mathlib.Core.List.{[], _∷_}
+use Prim.Native.Nat.{_<_}
 use native.Mathlib.Nat.{mul-pos}
 use native.Mathlib.Omega.{arith}
 use lib.Dec.{lit<}
-use lib.IntN.{ℤ, pos}
+use lib.IntN.{pos}
 use lib.ListN.{getD, length}
 use mir.Syntax.{w16}
 use Rattle.wrap.proofs.Integers.{returned}
