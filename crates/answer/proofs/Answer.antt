@@ -17,8 +17,9 @@ use Rattle.format.proofs.Accepted.{one-cut}
 use Rattle.format.proofs.Decoded.{accepted, accepts}
 use Rattle.format.proofs.Needs.{file-need, needOf}
 use Rattle.encoder.specs.Encoder.{View, newView, view}
-use Rattle.encoder.specs.OneShot.{headBytes}
-use Rattle.encoder.specs.Calls.{AllDone, FrameDone, ShotDone, headMemory, headTold, toldEncode, wrote}
+use Rattle.encoder.specs.Head.{headBytes}
+use Rattle.oneshot.specs.Shots.{AllDone, ShotDone}
+use Rattle.encoder.specs.Calls.{FrameDone, headMemory, headTold, toldEncode, wrote}
 use Rattle.encoder.specs.declared.EncodeAnswer.{EncodeAnswer}
 use Rattle.encoder.specs.declared.EncodedBytes.{EncodedBytes}
 use Rattle.encoder.specs.declared.QoaEncoder.{QoaEncoder}

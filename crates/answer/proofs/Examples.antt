@@ -22,8 +22,9 @@ use Rattle.format.proofs.Examples.{oneSample}
 use Rattle.encoder.specs.Channel.{lmsBefore, slicePart, sliceWord, sumAt}
 use Rattle.encoder.specs.Encoder.{createRules, goodEncoder, newView}
 use Rattle.encoder.specs.Frame.{allShort, firstWide, frameBytes, frameSums, laid}
-use Rattle.encoder.specs.OneShot.{before, bytesBefore, chunk, framesIn, headBytes, needOf, shotRules, stopIn, sumsBefore}
-use Rattle.encoder.specs.Calls.{shotTold}
+use Rattle.oneshot.specs.OneShot.{before, bytesBefore, chunk, framesIn, needOf, shotRules, stopIn, sumsBefore}
+use Rattle.encoder.specs.Head.{headBytes}
+use Rattle.oneshot.specs.Shots.{shotTold}
 use Rattle.answer.specs.Finished.{Finished, from-start, bytesIn, reconstructionIn}
 
 pub run : Finished

@@ -19,7 +19,7 @@ use Rattle.format.specs.Reader.{Audio, audioOf, decode}
 use Rattle.format.proofs.Decoded.{accepts}
 use Rattle.encoder.specs.Encoder.{View}
 use Rattle.encoder.specs.Frame.{afterFrame, frameBytes, frameSums}
-use Rattle.encoder.specs.OneShot.{headBytes}
+use Rattle.encoder.specs.Head.{headBytes}
 use Rattle.encoder.proofs.Heads.{length-head}
 use Rattle.answer.specs.Finished.{allGiven, framesBytes, framesSums}
 use Rattle.answer.proofs.Frames.{Taken, taken-frame, taken-heard, taken-many}

@@ -16,8 +16,9 @@ use Rattle.header.specs.Format.{mostBytes}
 use Rattle.format.specs.Reader.{decode}
 use Rattle.encoder.specs.Encoder.{View}
 use Rattle.encoder.specs.Frame.{afterFrame, firstWide, frameBytes, frameSums}
-use Rattle.encoder.specs.OneShot.{Stop, before, bytesBefore, chunk, fileBytes, framesIn, framesOf, headBytes, orStop, stopAt, stopIn, sumsBefore}
-use Rattle.encoder.proofs.Files.{before-channels, before-good, chunk-long, countIn, per-chunk}
+use Rattle.oneshot.specs.OneShot.{Stop, before, bytesBefore, chunk, fileBytes, framesIn, framesOf, orStop, stopAt, stopIn, sumsBefore}
+use Rattle.encoder.specs.Head.{headBytes}
+use Rattle.oneshot.proofs.Files.{before-channels, before-good, chunk-long, countIn, per-chunk}
 use Rattle.answer.specs.Finished.{allGiven, framesBytes, framesSums}
 use Rattle.answer.proofs.Files.{AllTaken, Tailless, as-many, reads-back, tailless}
 use Rattle.answer.proofs.Frames.{Taken}

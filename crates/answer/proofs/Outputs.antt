@@ -9,12 +9,14 @@ use lib.Seq.{take-at}
 use Rattle.word.specs.Rules.{Rule}
 use Rattle.encoder.specs.Encoder.{View, newView, view}
 use Rattle.encoder.specs.Frame.{afterFrame, frameBytes}
-use Rattle.encoder.specs.OneShot.{fileBytes, headBytes, shotRules}
-use Rattle.encoder.specs.Calls.{AllDone, FrameDone, ShotDone, allRules, frameMemory, frameTold, headMemory, headTold, onto, shotMemory, shotTold, toldEncode, wrote}
+use Rattle.oneshot.specs.OneShot.{fileBytes, shotRules}
+use Rattle.encoder.specs.Head.{headBytes}
+use Rattle.oneshot.specs.Shots.{AllDone, ShotDone, allRules, shotMemory, shotTold}
+use Rattle.encoder.specs.Calls.{FrameDone, frameMemory, frameTold, headMemory, headTold, onto, toldEncode, wrote}
 use Rattle.encoder.specs.declared.EncodeAnswer.{EncodeAnswer}
 use Rattle.encoder.specs.declared.EncodedBytes.{EncodedBytes}
 use Rattle.encoder.specs.declared.QoaEncoder.{QoaEncoder}
-use Rattle.encoder.proofs.Files.{file-long}
+use Rattle.oneshot.proofs.Files.{file-long}
 use Rattle.encoder.proofs.Frames.{length-frame}
 use Rattle.encoder.proofs.Heads.{length-head}
 use Rattle.answer.specs.Finished.{Accepted, Finished, one-shot, from-start, bytesIn, givenIn, startIn}

@@ -14,8 +14,10 @@ use Rattle.word.proofs.Tests.{nnot, tests}
 use Rattle.header.specs.Format.{frameLength}
 use Rattle.encoder.specs.Encoder.{View, createRules, goodEncoder, newView}
 use Rattle.encoder.specs.Frame.{afterFrame, firstWide, frameRules, perChannel}
-use Rattle.encoder.specs.OneShot.{fileNeed, framesOf, headRules, shotRules, stopIn}
-use Rattle.encoder.specs.Calls.{Told, allRules, frameTold, headTold, ifSome, shotTold, refuses, refuses-14, wrote}
+use Rattle.oneshot.specs.OneShot.{fileNeed, framesOf, shotRules, stopIn}
+use Rattle.encoder.specs.Head.{headRules}
+use Rattle.encoder.specs.Calls.{Told, frameTold, headTold, ifSome, refuses, refuses-14, wrote}
+use Rattle.oneshot.specs.Shots.{allRules, shotTold}
 use Rattle.encoder.proofs.GoodEncoders.{Good, good-facts}
 use Rattle.answer.specs.Finished.{Accepted, AllAccepted}
 use Rattle.answer.proofs.Files.{AllTaken}

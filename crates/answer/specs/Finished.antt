@@ -6,8 +6,10 @@ use mathlib.Core.List.{List, [], _∷_, _++_}
 use lib.IntN.{ℤ}
 use Rattle.encoder.specs.Encoder.{View, newView}
 use Rattle.encoder.specs.Frame.{afterFrame, frameBytes, frameSums}
-use Rattle.encoder.specs.OneShot.{fileBytes, framesOf, headBytes, shotRules, sumsBefore}
-use Rattle.encoder.specs.Calls.{allRules, frameTold, shotTold, wrote}
+use Rattle.oneshot.specs.OneShot.{fileBytes, framesOf, shotRules, sumsBefore}
+use Rattle.encoder.specs.Head.{headBytes}
+use Rattle.oneshot.specs.Shots.{allRules, shotTold}
+use Rattle.encoder.specs.Calls.{frameTold, wrote}
 
 -- ---- frames, given by their samples, each from the state that the one before handed back
 

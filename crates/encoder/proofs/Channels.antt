@@ -1,18 +1,17 @@
 -- Laws of a channel's slices: the samples of each, and the predictor before each. Assumes nothing.
 use Prim.Native.Nat.{ℕ, zero, suc, _+_, _*_, _-_, _≤_, _<_, min}
-use mathlib.Core.Path.{_≡_, refl, ap, sym, _∙_}
+use mathlib.Core.Path.{_≡_, ap, sym, _∙_}
 use mathlib.Core.List.{List}
 use native.Mathlib.Nat.{mul-le-mul-left, mul-le-mul-right}
 use native.Mathlib.Omega.{arith}
 use lib.IntN.{ℤ, pos}
-use lib.ListN.{length, getD, take, drop, length-drop, length-take}
+use lib.ListN.{length, drop, length-drop, length-take}
 use lib.Seq.{getD-drop, getD-take}
 use Rattle.word.proofs.Tables.{getD-table}
 use Rattle.lms.specs.Predictor.{at, HistoryFits, WeightsWithin}
 use Rattle.lms.specs.declared.QoaLms.{QoaLms}
 use Rattle.lms.proofs.Bounds.{within-more}
-use Rattle.search.specs.Search.{strided}
-use Rattle.search.specs.Search.{encodedSlice}
+use Rattle.search.specs.Search.{encodedSlice, strided}
 use Rattle.search.specs.declared.Encoded.{Encoded}
 use Rattle.search.proofs.Fitting.{strided-length}
 use Rattle.search.proofs.Lists.{whole-table}

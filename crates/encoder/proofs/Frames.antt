@@ -1,6 +1,6 @@
 -- Laws of a frame: its length, its bytes and the state after it, in terms of the state that the code holds. Assumes nothing.
-use Prim.Native.Nat.{ℕ, zero, suc, _+_, _*_, _/_, _≤_, _<_}
-use mathlib.Core.Path.{_≡_, refl, ap, ap₂, sym, _∙_}
+use Prim.Native.Nat.{ℕ, _+_, _*_, _/_, _≤_, _<_}
+use mathlib.Core.Path.{_≡_, ap, ap₂, sym, _∙_}
 use mathlib.Core.Bool.{true}
 use mathlib.Core.List.{List, _++_, append-assoc}
 use native.Mathlib.Nat.{mul-le-mul}
@@ -8,7 +8,6 @@ use native.Mathlib.Omega.{arith}
 use lib.IntN.{ℤ}
 use lib.ListN.{length, length-append}
 use Rattle.word.specs.Bytes.{bytesOf, put}
-use Rattle.word.specs.Written.{table}
 use Rattle.word.proofs.BytesLaws.{length-bytes}
 use Rattle.word.proofs.Tables.{getD-table, length-table, table-ext}
 use Rattle.lms.specs.Predictor.{WeightsWithin}
@@ -19,14 +18,14 @@ use Rattle.header.specs.Predictor.{lmsOf, noLms}
 use Rattle.search.specs.Search.{strided}
 use Rattle.search.proofs.Fitting.{strided-length}
 use Rattle.encoder.specs.Encoder.{View, view, goodEncoder}
-use Rattle.encoder.specs.Channel.{lmsBefore, sliceWord, sumAt}
-use Rattle.encoder.specs.Frame.{afterFrame, allShort, channelOf, firstWide, frameBytes, frameSums, groupBytes, headerFor, laid, lmsBytes, perChannel, stateBytes}
+use Rattle.encoder.specs.Channel.{lmsBefore, sliceWord}
+use Rattle.encoder.specs.Frame.{afterFrame, channelOf, firstWide, frameBytes, frameSums, groupBytes, headerFor, laid, lmsBytes, perChannel, stateBytes}
 use Rattle.encoder.specs.Parts.{FrameFits, overlaid}
 use Rattle.encoder.specs.declared.QoaEncoder.{QoaEncoder}
 use Rattle.encoder.proofs.Channels.{before-fits}
 use Rattle.encoder.proofs.GoodEncoders.{Good, facts-good, view-lms}
 use Rattle.encoder.proofs.Laids.{laid-ext, length-laid, length-states, length-words}
-use Rattle.encoder.proofs.Overlays.{length-over, over-put, over-then}
+use Rattle.encoder.proofs.Overlays.{over-put, over-then}
 use Rattle.encoder.proofs.Wides.{short-within, wide-ext, wide-none}
 
 -- ---- lengths

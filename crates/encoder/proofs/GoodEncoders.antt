@@ -2,11 +2,9 @@
 use Prim.Native.Nat.{ℕ, _≤_, _<_}
 use mathlib.Core.Path.{_≡_, ap}
 use mathlib.Core.Bool.{true}
-use native.Mathlib.Omega.{arith}
 use borrow.Author.Tests.{le-leb, leb-true}
 use lib.Dec.{leb}
-use Rattle.word.specs.Written.{table}
-use Rattle.word.proofs.Tables.{getD-table, length-table}
+use Rattle.word.proofs.Tables.{getD-table}
 use Rattle.lms.specs.Predictor.{HistoryFits, newLms}
 use Rattle.lms.proofs.Bounds.{new-fits}
 use Rattle.header.specs.Format.{maxChannels, mostRate}

@@ -8,7 +8,7 @@ use Rattle.word.specs.Bytes.{byteOf, bytesOf, put}
 use Rattle.word.specs.Written.{table}
 use Rattle.word.proofs.BytesLaws.{length-bytes}
 use Rattle.header.specs.FileHeader.{fileWord, magic}
-use Rattle.encoder.specs.OneShot.{headBytes}
+use Rattle.encoder.specs.Head.{headBytes}
 use Rattle.encoder.specs.Calls.{onto}
 use Rattle.encoder.proofs.Overlays.{over-put, over-start}
 

@@ -6,5 +6,6 @@ pub mod Wides
 pub mod GoodEncoders
 pub mod Heads
 pub mod Frames
-pub mod Files
 pub mod Done
+pub mod Settled
+pub mod ByteLists

@@ -18,7 +18,6 @@ use mir.Val.{SFits}
 use Rattle.lms.specs.Predictor.{at, WeightsWithin}
 use Rattle.lms.specs.declared.QoaLms.{QoaLms}
 use Rattle.header.specs.Predictor.{lmsOf}
-use Rattle.state.specs.States.{below}
 use Rattle.state.proofs.Belows.{below-all, below-at}
 use Rattle.encoder.specs.Frame.{allShort, firstWide, orThen}
 

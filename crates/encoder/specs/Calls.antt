@@ -1,22 +1,21 @@
 -- What each encoding call answers, leaves in the lent output, and hands back. Assumes nothing.
-use Prim.Native.Nat.{ℕ, _+_}
+use Prim.Native.Nat.{ℕ}
 use mathlib.Core.Path.{_≡_}
 use mathlib.Core.List.{List, _++_}
 use mathlib.Core.Option.{Option, none, some}
 use lib.IntN.{ℤ}
-use lib.ListN.{length, take, drop}
-use Rattle.word.specs.Rules.{Answer, good, refused, Rule, after, firstOf}
+use lib.ListN.{length, drop}
+use Rattle.word.specs.Rules.{good, after, firstOf}
 use Rattle.header.specs.Format.{frameLength}
 use Rattle.header.specs.Refusals.{numberOf}
 use Rattle.encoder.specs.Encoder.{View, view, createRules, newView, toldCreate, zeroEncoder}
 use Rattle.encoder.specs.Frame.{afterFrame, firstWide, frameBytes, frameRules, perChannel}
-use Rattle.encoder.specs.OneShot.{Stop, before, bytesBefore, fileBytes, fileNeed, framesOf, headBytes, headRules, shotRules, stopIn}
+use Rattle.encoder.specs.Head.{headBytes, headRules}
 use Rattle.encoder.specs.declared.QoaEncoder.{QoaEncoder}
 use Rattle.encoder.specs.declared.CreatedEncoder.{CreatedEncoder}
 use Rattle.encoder.specs.declared.EncodedBytes.{EncodedBytes}
 use Rattle.encoder.specs.declared.EncodeAnswer.{EncodeAnswer}
 use Rattle.encoder.specs.declared.EncodeAnswer.the-variants.{Written, Refused, WeightRange}
-use Rattle.encoder.specs.declared.NeedAnswer as N
 
 -- what an encoding call tells: the bytes written; a refusal; or refusal 14, with the bytes that stand in the output and the channel
 pub data Told : Type 0 where
@@ -28,10 +27,6 @@ abbrev pub toldEncode : EncodeAnswer → Told
 toldEncode (Written n) = wrote n
 toldEncode (Refused r) = refuses (numberOf r)
 toldEncode (WeightRange count channel) = refuses-14 count channel
-
-abbrev pub toldNeed : N.NeedAnswer → Answer ℕ
-toldNeed (N.the-variants.Bytes n) = good n
-toldNeed (N.the-variants.Refused r) = refused (numberOf r)
 
 -- what comes of a thing that is there, or else the other
 abbrev pub ifSome : {A B : Type 0} → Option B → (B → A) → A → A
@@ -85,31 +80,3 @@ pub record FrameDone (e : QoaEncoder) (samples : List ℤ) (out : List ℕ) (r :
   pub told : toldEncode (r .answer) ≡ frameTold (view e) samples (length out)
   pub memory : left ≡ frameMemory (view e) samples out
   pub back : HandsBack (frameTold (view e) samples (length out)) e (afterFrame (view e) samples) (r .state)
-
--- ---- one shot
-
--- the refusals, then 14, which leaves the file header and the frames before the refused one, then the whole file
-unfoldable pub shotTold : List Rule → View → List ℤ → Told
-shotTold rules v samples =
-    ifSome (firstOf rules) refuses
-    (ifSome (stopIn v samples (framesOf v)) (λ s. refuses-14 (length (bytesBefore v samples (s .frame))) (s .channel))
-    (wrote (fileNeed v)))
-
-unfoldable pub shotMemory : List Rule → View → List ℤ → List ℕ → List ℕ
-shotMemory rules v samples out =
-    ifSome (firstOf rules) (λ n. out)
-    (ifSome (stopIn v samples (framesOf v)) (λ s. onto out (bytesBefore v samples (s .frame)))
-    (onto out (fileBytes v samples)))
-
-pub record ShotDone (e : QoaEncoder) (samples : List ℤ) (out : List ℕ) (r : EncodedBytes) (left : List ℕ) : Type 0 where
-  pub told : toldEncode (r .answer) ≡ shotTold (shotRules (view e) samples (length out)) (view e) samples
-  pub memory : left ≡ shotMemory (shotRules (view e) samples (length out)) (view e) samples out
-  pub back : HandsBack (shotTold (shotRules (view e) samples (length out)) (view e) samples) e (before (view e) samples (framesOf (view e))) (r .state)
-
--- from a new encoder: 11, 12, 13, then 13, 7, 14
-abbrev pub allRules : ℕ → ℕ → ℕ → List ℤ → ℕ → List Rule
-allRules c rate total samples room = createRules c rate total ++ shotRules (newView c rate total) samples room
-
-pub record AllDone (c rate total : ℕ) (samples : List ℤ) (out : List ℕ) (r : EncodeAnswer) (left : List ℕ) : Type 0 where
-  pub told : toldEncode r ≡ shotTold (allRules c rate total samples (length out)) (newView c rate total) samples
-  pub memory : left ≡ shotMemory (allRules c rate total samples (length out)) (newView c rate total) samples out

@@ -2,6 +2,6 @@
 pub mod Encoder
 pub mod Channel
 pub mod Frame
-pub mod OneShot
+pub mod Head
 pub mod Calls
 pub mod Parts

@@ -5,7 +5,7 @@ use mathlib.Core.List.{List, _++_}
 use mathlib.Core.Option.{Option, none, some}
 use lib.IntN.{ℤ}
 use lib.ListN.{length, take, drop}
-use Rattle.header.specs.Format.{frameLength, maxChannels, mostRate}
+use Rattle.header.specs.Format.{maxChannels, mostRate}
 use Rattle.encoder.specs.Encoder.{View}
 use Rattle.encoder.specs.Frame.{firstWide, perChannel}
 use Rattle.encoder.specs.declared.Wide.{Wide}
@@ -14,10 +14,6 @@ use Rattle.encoder.specs.declared.Wide.the-variants.{Nowhere, At}
 -- bytes laid over what was there, from a place on
 unfoldable pub overlaid : List ℕ → ℕ → List ℕ → List ℕ
 overlaid out p bytes = take p out ++ (bytes ++ drop (p + length bytes) out)
-
--- where frame f of a file stands: after the file header and f full frames
-unfoldable pub framePlace : ℕ → ℕ → ℕ
-framePlace c f = 8 + f * frameLength c 5120
 
 abbrev pub toldWide : Wide → Option ℕ
 toldWide Nowhere = none

@@ -3,7 +3,7 @@ ghost use mathlib.Core.Path.{_≡_};
 ghost use Prim.Native.Nat.{_≤_};
 ghost use lib.ListN.{length};
 ghost use Rattle.encoder.specs.Encoder.{view};
-ghost use Rattle.encoder.specs.OneShot.{headBytes};
+ghost use Rattle.encoder.specs.Head.{headBytes};
 ghost use Rattle.encoder.specs.Calls.{headMemory, headTold, onto, toldEncode};
 use crate::EncodeAnswer;
 use crate::QoaEncoder;

@@ -8,15 +8,11 @@ pub mod frame;
 pub mod group;
 pub mod head;
 pub mod rules;
-pub mod shot;
 
 pub use create::new_encoder;
 pub use frame::encode_frame;
 pub use head::write_header;
 pub use rules::is_good_encoder;
-pub use shot::encode;
-pub use shot::encode_all;
-pub use shot::encode_need;
 
 pub struct QoaEncoder {
     pub channels: u8,
@@ -53,10 +49,4 @@ pub struct EncodedBytes {
 pub enum Wide {
     Nowhere,
     At(u8),
-}
-
-// How many bytes a whole file takes.
-pub enum NeedAnswer {
-    Bytes(usize),
-    Refused(Refusal),
 }

@@ -3,7 +3,7 @@ use Prim.Native.Nat.{ℕ}
 use mathlib.Core.Path.{_≡_, refl}
 use mathlib.Core.List.{List, [], _∷_, _++_, flatMap}
 use lib.IntN.{pos}
-use lib.ListN.{drop, replicate, take}
+use lib.ListN.{drop, replicate}
 use Rattle.word.specs.Bytes.{be}
 use Rattle.word.specs.Rules.{firstOf, good, refused}
 use Rattle.word.specs.Written.{table}
@@ -32,33 +32,17 @@ oneSample =
     ++ (0 ∷ 0 ∷ 0 ∷ 0 ∷ 0xe0 ∷ 0 ∷ 0x40 ∷ 0 ∷ [])
     ++ replicate 8 0
 
--- it reads as sample 1,
-pub reads-as-one : decode 1 oneSample ≡ good (record { channels = 1; rate = 44100; samples = pos 1 ∷ [] })
+-- it reads as sample 1, with a tail of 7 bytes too, and no room is 7
+pub one-sample : (decode 1 oneSample ≡ good (record { channels = 1; rate = 44100; samples = pos 1 ∷ [] }))
+    × (decode 1 (oneSample ++ replicate 7 1) ≡ good (record { channels = 1; rate = 44100; samples = pos 1 ∷ [] }))
+    × (decode 0 oneSample ≡ refused 7)
 unfolding decode audioIn firstOf cutOf bodyFor walkOf walkBy fileRules frameRules otherRules headerRules headerAt frameLength slicesOf stateEnd sizeSlices tailOk be audioOf flatMap frameSamples frameStates table lmsAt groupsAt channelAt runAfter sampleAt stateAfter heard sampleOf predicted dot modulo clamp16 rowOf rowFor factorOf factors
-reads-as-one = refl
-
--- with a tail of 7 bytes too,
-pub tail-ignored : decode 1 (oneSample ++ replicate 7 1) ≡ good (record { channels = 1; rate = 44100; samples = pos 1 ∷ [] })
-unfolding decode audioIn firstOf cutOf bodyFor walkOf walkBy fileRules frameRules otherRules headerRules headerAt frameLength slicesOf stateEnd sizeSlices tailOk be audioOf flatMap frameSamples frameStates table lmsAt groupsAt channelAt runAfter sampleAt stateAfter heard sampleOf predicted dot modulo clamp16 rowOf rowFor factorOf factors
-tail-ignored = refl
-
--- and no room is 7
-pub no-room : decode 0 oneSample ≡ refused 7
-unfolding decode audioIn firstOf cutOf bodyFor walkOf walkBy fileRules frameRules otherRules headerRules headerAt frameLength slicesOf stateEnd sizeSlices tailOk be audioOf flatMap frameSamples frameStates table lmsAt groupsAt channelAt runAfter sampleAt stateAfter heard sampleOf predicted dot modulo clamp16 rowOf rowFor factorOf factors
-no-room = refl
+one-sample = (refl, refl, refl)
 
 -- its frame, as a run of streaming frames; no bytes give no samples; a byte left over is 5
-pub frame-streamed : streamed 1 (drop 8 oneSample) ≡ good (pos 1 ∷ [])
+pub one-frame : (streamed 1 (drop 8 oneSample) ≡ good (pos 1 ∷ [])) × (streamed 0 [] ≡ good []) × (streamed 1 (drop 8 oneSample ++ (0 ∷ [])) ≡ refused 5)
 unfolding streamed samplesIn firstOf walkOf walkBy freeRules headerRules headerAt frameLength slicesOf stateEnd sizeSlices be flatMap frameSamples frameStates table lmsAt groupsAt channelAt runAfter sampleAt stateAfter heard sampleOf predicted dot modulo clamp16 rowOf rowFor factorOf factors
-frame-streamed = refl
-
-pub none-streamed : streamed 0 [] ≡ good []
-unfolding streamed samplesIn firstOf walkOf walkBy flatMap
-none-streamed = refl
-
-pub byte-left-over : streamed 1 (drop 8 oneSample ++ (0 ∷ [])) ≡ refused 5
-unfolding streamed samplesIn firstOf walkOf walkBy freeRules headerRules headerAt frameLength slicesOf stateEnd sizeSlices be
-byte-left-over = refl
+one-frame = (refl, refl, refl)
 
 -- a frame without samples, and the header of one at another rate whose state is cut: 4 in fixed mode, 5 in streaming mode
 abbrev pub otherRate : ℕ → List ℕ
@@ -67,10 +51,6 @@ otherRate total =
     ++ replicate 16 0
     ++ (1 ∷ 0 ∷ 0 ∷ 2 ∷ 0 ∷ 0 ∷ 0 ∷ 0x20 ∷ [])
 
-pub fixed-order : decode 0 (otherRate 1) ≡ refused 4
+pub order-by-mode : (decode 0 (otherRate 1) ≡ refused 4) × (decode 0 (otherRate 0) ≡ refused 5)
 unfolding decode audioIn firstOf cutOf bodyFor walkOf walkBy fileRules frameRules otherRules headerRules headerAt frameLength slicesOf stateEnd sizeSlices tailOk be
-fixed-order = refl
-
-pub streaming-order : decode 0 (otherRate 0) ≡ refused 5
-unfolding decode audioIn firstOf cutOf bodyFor walkOf walkBy fileRules frameRules otherRules headerRules headerAt frameLength slicesOf stateEnd sizeSlices tailOk be
-streaming-order = refl
+order-by-mode = (refl, refl)

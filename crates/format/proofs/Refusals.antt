@@ -17,6 +17,7 @@ use Rattle.header.specs.Header.{headerAt, headerRules}
 use Rattle.header.specs.Part.{cutRules, lengthOf}
 use Rattle.header.specs.Grammar.{Cut, IsCut}
 use Rattle.header.specs.declared.frame.FrameHeader.{FrameHeader}
+use Rattle.header.proofs.Told.{never, refused-one}
 use Rattle.format.specs.Walk.{Walk, afterFrame, ends, frameAt, roomRules, step, walkBy, walkOf, withFrame}
 use Rattle.format.specs.Reader.{Audio, audioIn, audioOf, body, bodyFor, cutOf, decode, frameRules, inOrder, longRules, otherRules, rulesAt, sameRules, someRules, tailRules, wholeFile, withFirst, withRoom}
 use Rattle.format.proofs.Accepted.{HeadGood, head-good, quiet-head}
@@ -38,19 +39,13 @@ module _ (P : ℕ → Type 0) where
   give-both [] b p q = q
   give-both ((t gives n) ∷ a) b p q = (p .0, give-both a b (p .1) q)
 
-same-number : {A : Type 0} (n m : ℕ) → _≡_ {A = Answer A} (refused n) (refused m) → n ≡ m
-same-number n m e = cc
-
-never-refused : {A : Type 0} {X : Type 0} (x : A) (n : ℕ) → _≡_ {A = Answer A} (good x) (refused n) → X
-never-refused x n e = let z : _≡_ {A = ℕ} 0 1 = cc in absurd (omega arith)
-
 unless-refused : {A : Type 0} (o : Option ℕ) (a : Answer A) (n : ℕ) → unless o a ≡ refused n → (o ≡ some n) ⊎ ((o ≡ none) × (a ≡ refused n))
 unless-refused none a n e = inr (refl, e)
-unless-refused (some m) a n e = inl (ap {B = Option ℕ} some (same-number m n e))
+unless-refused (some m) a n e = inl (ap {B = Option ℕ} some (refused-one m n e))
 
 then-refused : {A B : Type 0} (a : Answer A) (f : A → Answer B) (n : ℕ) → (a then f) ≡ refused n
     → (a ≡ refused n) ⊎ ((y : A) × (a ≡ good y) × (f y ≡ refused n))
-then-refused (refused m) f n e = inl (ap (λ (k : ℕ). refused k) (same-number m n e))
+then-refused (refused m) f n e = inl (ap (λ (k : ℕ). refused k) (refused-one m n e))
 then-refused (good y) f n e = inr (y, refl, e)
 
 -- a frame gives 3, 4, 5 or 6, and so does a walk
@@ -73,7 +68,7 @@ module _ (P : ℕ → Type 0) (three : P 3) (four : P 4) (five : P 5) (six : P 6
 
   module _ (fixed : Bool) (c r : ℕ) where
     ends-gives : (b : List ℕ) (n : ℕ) → ends (wholeFile fixed c r) b ≡ refused n → P n
-    ends-gives b n e = ⊎-elim (λ f. given P (tailRules (length b)) n f (five, tt)) (λ q. never-refused _ n (q .1)) (unless-refused (firstOf (tailRules (length b))) (good (record { frames = []; tail = b })) n e)
+    ends-gives b n e = ⊎-elim (λ f. given P (tailRules (length b)) n f (five, tt)) (λ q. never _ n (q .1)) (unless-refused (firstOf (tailRules (length b))) (good (record { frames = []; tail = b })) n e)
 
     walk-by-gives : (fuel : ℕ) (b : List ℕ) (n : ℕ) → walkBy (wholeFile fixed c r) fuel b ≡ refused n → P n
     unfolding walkBy
@@ -87,7 +82,7 @@ module _ (P : ℕ → Type 0) (three : P 3) (four : P 4) (five : P 5) (six : P 6
         go true ih e = ends-gives b n e
         go false ih e =
             ⊎-elim (λ f. given P (rulesAt fixed c r b) n f (frame-gives fixed c r b))
-            (λ q. ⊎-elim ih (λ y. never-refused _ n (y .2)) (then-refused rest (withFrame (frameAt b)) n (q .1)))
+            (λ q. ⊎-elim ih (λ y. never _ n (y .2)) (then-refused rest (withFrame (frameAt b)) n (q .1)))
             (unless-refused (firstOf (rulesAt fixed c r b)) (rest then withFrame (frameAt b)) n e)
 
     -- after the first 8 bytes of a frame are there
@@ -107,7 +102,7 @@ module _ (P : ℕ → Type 0) (three : P 3) (four : P 4) (five : P 5) (six : P 6
       ⊎-elim inl
       (λ q. inr (
         q .0,
-        ⊎-elim (body-gives (isFixed (totalOf b)) (headerAt rest 0 .channels) (headerAt rest 0 .rate) rest n) (λ y. never-refused _ n (y .2))
+        ⊎-elim (body-gives (isFixed (totalOf b)) (headerAt rest 0 .channels) (headerAt rest 0 .rate) rest n) (λ y. never _ n (y .2))
             (then-refused (body (isFixed (totalOf b)) rest) (withFirst (take 8 b) (frameAt rest)) n (q .1)),
       ))
       (unless-refused (firstOf (fileRules b)) (body (isFixed (totalOf b)) rest then withFirst (take 8 b) (frameAt rest)) n e)
@@ -141,7 +136,7 @@ module _ (room : ℕ) (b : List ℕ) where
   unfolding audioIn
   file-from n e =
       ⊎-elim inl
-      (λ q. inr (few (q .0), ⊎-elim (λ c. c) (λ y. never-refused _ n (y .2)) (then-refused (cutOf b) (λ k. good (audioOf k)) n (q .1))))
+      (λ q. inr (few (q .0), ⊎-elim (λ c. c) (λ y. never _ n (y .2)) (then-refused (cutOf b) (λ k. good (audioOf k)) n (q .1))))
       (unless-refused (firstOf (longRules b)) (cutOf b then λ k. good (audioOf k)) n e)
 
   abbrev NoRoom : ℕ → Type 0
@@ -150,7 +145,7 @@ module _ (room : ℕ) (b : List ℕ) where
   room-from : (n : ℕ) (a : Audio) → audioIn b ≡ good a → withRoom room a ≡ refused n → NoRoom n
   room-from n a e f =
       let h = holds b a e in
-      let fired = ⊎-elim (λ f. single _ 7 n f) (λ z. never-refused _ n (z .1)) (unless-refused (firstOf (roomRules room (a .samples))) (good a) n f) in
+      let fired = ⊎-elim (λ f. single _ 7 n f) (λ z. never _ n (z .1)) (unless-refused (firstOf (roomRules room (a .samples))) (good a) n f) in
       let less : room < length (a .samples) = ltb→lt room (length (a .samples)) (fired .0) in
       (fired .1, h .few-bytes, h .cut, h .is-cut, rw (h .audio) at less)
 

@@ -11,7 +11,7 @@ use Rattle.header.specs.Header.{headerAt, headerRules}
 use Rattle.header.specs.Part.{cutRules, lengthOf}
 use Rattle.header.specs.Grammar.{Passes}
 use Rattle.header.specs.declared.frame.FrameHeader.{FrameHeader}
-use Rattle.format.specs.Walk.{Reader, Walk, roomRules, samplesOf, walkOf}
+use Rattle.format.specs.Walk.{Reader, roomRules, samplesOf, walkOf}
 
 -- exactly the bytes of a frame, of any channels and rate
 pub record IsFree (f : List ℕ) : Type 0 where

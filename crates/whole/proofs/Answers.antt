@@ -1,7 +1,7 @@
 -- What an answer tells settles the answer. Assumes nothing.
 use mathlib.Core.Path.{_≡_, sym, ap}
-use Rattle.header.specs.Refusals.{numberOf}
 use Rattle.word.proofs.Rules.{good-same}
+use Rattle.header.specs.Refusals.{numberOf}
 use Rattle.header.proofs.Told.{never, number-one, refused-one}
 use Rattle.whole.specs.Told.{toldDecoded, toldFrames, toldNeed}
 use Rattle.whole.specs.declared.answer.DecodeAnswer as D

@@ -26,6 +26,11 @@ use Rattle.whole.specs.Held.{HasRoom, held}
 use Rattle.whole.specs.declared.answer.Summary.{Summary}
 use Rattle.whole.proofs.Decoding.{joined-held}
 
+-- a refusal of what is told of a value is one of the value
+mapped-refused : {A B : Type 0} (f : A → B) (a : Answer A) (n : ℕ) → (a then λ x. good (f x)) ≡ refused n → a ≡ refused n
+mapped-refused {A} f (refused m) n e = ap {B = Answer A} refused (refused-one m n e)
+mapped-refused f (good x) n e = never (f x) n e
+
 -- ---- streaming frames
 
 -- counting first and then asking for room is the same
@@ -43,13 +48,8 @@ module _ (room : ℕ) (b : List ℕ) where
   unfolding fitAfter streamed samplesIn
   frames-counted = counted room (walkOf freeFrames b)
 
-  -- a refusal of the count is one of the call
-  count-refused : (a : Answer (List ℤ)) (n : ℕ) → countIn a ≡ refused n → a ≡ refused n
-  count-refused (refused m) n e = ap {B = Answer (List ℤ)} refused (refused-one m n e)
-  count-refused (good xs) n e = never (length xs) n e
-
   pub frames-refused : (n : ℕ) → countIn (streamed room b) ≡ refused n → streamed room b ≡ refused n
-  frames-refused n e = count-refused (streamed room b) n e
+  frames-refused n e = mapped-refused length (streamed room b) n e
 
   -- where it counts, there are samples, held and with room for them
   pub record Streams (n : ℕ) : Type 0 where
@@ -88,13 +88,9 @@ audio-held b a e =
     rw after (joined-held frames (k .tail) (each-free _ _ frames (h .is-cut .frames)) short ∙ ap (λ (z : Audio). good (z .samples)) (sym (h .audio)))
 
 module _ (room : ℕ) (b : List ℕ) where
-  summary-refused : (a : Answer Audio) (n : ℕ) → summaryIn a ≡ refused n → a ≡ refused n
-  summary-refused (refused m) n e = ap {B = Answer Audio} refused (refused-one m n e)
-  summary-refused (good a) n e = never (summaryOf a) n e
-
   pub file-refused : (n : ℕ) → summaryIn (audioIn b) ≡ refused n → decode room b ≡ refused n
   unfolding decode
-  file-refused n e = rw (summary-refused (audioIn b) n e)
+  file-refused n e = rw (mapped-refused summaryOf (audioIn b) n e)
 
   -- where there is a need, there is audio: without room for it the answer is 7
   pub record Needs (s : Summary) : Type 0 where

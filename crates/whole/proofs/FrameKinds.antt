@@ -1,13 +1,13 @@
 -- The rules for a frame of a kind: where they are read, what passes them, and how the code puts them together. Assumes nothing.
 use Prim.Native.Nat.{ℕ, _-_, _≤_}
-use mathlib.Core.Path.{_≡_, refl, sym, ap, _∙_}
+use mathlib.Core.Path.{_≡_, refl, sym, _∙_}
 use mathlib.Core.Bool.{Bool, true, false}
 use mathlib.Core.List.{List, [], _∷_, _++_}
-use mathlib.Core.Option.{Option, none, some}
+use mathlib.Core.Option.{Option, none}
 use native.Mathlib.Omega.{arith}
 use lib.ListN.{length, drop, length-drop}
-use Rattle.word.specs.Rules.{Rule, _gives_, firstOf, orElse}
-use Rattle.word.proofs.Rules.{Quiet, quiet, quiet-parts}
+use Rattle.word.specs.Rules.{Rule, _gives_, firstOf}
+use Rattle.word.proofs.Rules.{quiet, quiet-parts}
 use Rattle.word.proofs.Tests.{tests}
 use Rattle.header.specs.Format.{maxChannels, stateEnd}
 use Rattle.header.specs.Header.{headerAt, headerRules}

@@ -2,13 +2,13 @@
 use Prim.Native.Nat.{ℕ, _+_, _-_, _*_, _≤_, _<_}
 use mathlib.Core.Path.{_≡_, refl, sym, ap, _∙_}
 use mathlib.Core.Bool.{Bool}
-use mathlib.Core.List.{List, [], _∷_, flatMap}
+use mathlib.Core.List.{List, [], _∷_}
 use mathlib.Core.Option.{Option, none, some}
 use native.Mathlib.Nat.{zero-add}
 use native.Mathlib.Omega.{arith}
 use borrow.Author.Tests.{le-ltb}
 use lib.ListN.{length, take, drop, length-drop}
-use Rattle.word.specs.Rules.{Answer, Rule, after, firstOf, good, refused, unless, _then_}
+use Rattle.word.specs.Rules.{Answer, firstOf, good, refused, unless, _then_}
 use Rattle.word.proofs.Rules.{fires, none-fires, quiet}
 use Rattle.word.proofs.Tests.{tests}
 use Rattle.header.specs.Format.{mostBytes}
@@ -19,14 +19,14 @@ use Rattle.header.specs.Grammar.{Each, IsFrame, joined}
 use Rattle.header.specs.declared.frame.FrameHeader.{FrameHeader}
 use Rattle.header.proofs.Told.{never}
 use Rattle.header.proofs.FileHeaders.{file-good}
-use Rattle.format.specs.Walk.{Reader, Walk, afterFrame, frameAt, samplesOf, walkOf, withFrame}
+use Rattle.format.specs.Walk.{Walk, afterFrame, frameAt, samplesOf, walkOf, withFrame}
 use Rattle.format.specs.Reader.{audioIn, audioOf, body, bodyFor, cutOf, longRules, rulesAt, someRules, wholeFile, withFirst}
 use Rattle.format.proofs.Accepted.{quiet-head}
 use Rattle.format.proofs.Frames.{header-at, starts, whole-file-fit}
 use Rattle.format.proofs.Walks.{walk-step, walked}
 use Rattle.format.proofs.Needs.{frames-need, need-small}
 use Rattle.format.proofs.Places.{header-here}
-use Rattle.whole.specs.Told.{summaryIn, summaryOf}
+use Rattle.whole.specs.Told.{summaryIn}
 use Rattle.whole.specs.Survey.{audioAfter, fitAfter, fits}
 use Rattle.whole.specs.declared.answer.Summary.{Summary}
 use Rattle.whole.proofs.Walking.{fits-good, walk-on}

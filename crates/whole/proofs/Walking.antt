@@ -1,17 +1,17 @@
 -- One turn of a loop over frames, and its end, as facts about the walk of the definitions. Assumes nothing.
-use Prim.Native.Nat.{ℕ, _+_, _-_, _*_, _≤_, _<_, min}
+use Prim.Native.Nat.{ℕ, _+_, _-_, _≤_, _<_, min}
 use mathlib.Core.Path.{_≡_, refl, sym, ap, _∙_}
 use mathlib.Core.List.{List, [], _∷_, _++_, flatMap}
 use mathlib.Core.Logic.{dite}
 use mathlib.Core.Option.{none, some}
 use native.Mathlib.Decide.{decLe}
-use native.Mathlib.Nat.{add-assoc, add-zero, min-eq-left, min-eq-right}
+use native.Mathlib.Nat.{add-zero, min-eq-left, min-eq-right}
 use native.Mathlib.Omega.{arith}
 use borrow.Author.Tests.{le-ltb, lt-ltb}
 use lib.Dec.{ltb}
 use lib.ListN.{length, drop, length-append, length-drop}
 use lib.Seq.{drop-drop}
-use Rattle.word.specs.Rules.{Answer, after, firstOf, good, refused, _gives_, _then_}
+use Rattle.word.specs.Rules.{Answer, firstOf, good, refused, _gives_, _then_}
 use Rattle.word.proofs.Rules.{fires, none-fires}
 use Rattle.word.proofs.Tests.{tests}
 use Rattle.header.specs.Header.{headerAt}

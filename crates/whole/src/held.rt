@@ -1,7 +1,7 @@
 // Decoding frames that a survey has passed: there is nothing left to refuse.
 ghost use mathlib.Core.Path.{_≡_};
 ghost use mathlib.Core.List.{_++_};
-ghost use Prim.Native.Nat.{_+_, _*_, _≤_, _<_};
+ghost use Prim.Native.Nat.{_+_, _*_, _≤_};
 ghost use lib.ListN.{length, take, drop};
 ghost use Rattle.scale.specs.Tables.{dequantTab};
 ghost use Rattle.header.specs.Format.{maxChannels, stateEnd};

@@ -1,13 +1,13 @@
 -- `whole::decode_all` meets its contract. Assumes nothing.
 use borrow.Author.Needs as author
-use Prim.Native.Nat.{ℕ, _≤_}
-use mathlib.Core.Path.{_≡_, sym, ap, _∙_}
+use Prim.Native.Nat.{ℕ}
+use mathlib.Core.Path.{sym, ap, _∙_}
 use mathlib.Core.List.{List}
 use native.Mathlib.Omega.{arith}
 use denote.Ref.{now}
 use lib.IntN.{ℤ}
 use lib.ListN.{length}
-use Rattle.word.specs.Rules.{Answer, good, refused}
+use Rattle.word.specs.Rules.{Answer, good}
 use Rattle.format.specs.Reader.{Audio}
 use Rattle.whole.specs.Told.{heardIn, kept, summaryIn, toldNeed}
 use Rattle.whole.specs.declared.answer.Summary.{Summary}

@@ -7,10 +7,9 @@ use native.Mathlib.Omega.{arith}
 use denote.Ref.{now}
 use lib.IntN.{ℤ}
 use lib.ListN.{length}
-use Rattle.word.specs.Rules.{Answer, good, refused}
+use Rattle.word.specs.Rules.{Answer}
 use Rattle.format.specs.Streaming.{streamed}
 use Rattle.whole.specs.Told.{countIn, kept, toldFrames}
-use Rattle.whole.specs.Held.{HasRoom}
 use Rattle.whole.proofs.Calls.{frames-counted, frames-good, frames-refused, Streams}
 use Rattle.whole.proofs.decode_frames.Statement.{statement}
 use Rattle.whole.proofs.decode_frames.Tie as tie

@@ -1,11 +1,8 @@
 -- `whole::decode_need` meets its contract. Assumes nothing.
 use borrow.Author.Needs.{needs}
-use Prim.Native.Nat.{ℕ, _≤_}
-use mathlib.Core.Path.{_≡_, sym, ap, _∙_}
+use mathlib.Core.Path.{sym, ap, _∙_}
 use native.Mathlib.Omega.{arith}
 use denote.Ref.{now}
-use lib.ListN.{length}
-use Rattle.header.specs.Format.{mostBytes}
 use Rattle.header.specs.FileHeader.{toldFile}
 use Rattle.header.proofs.FileHeaders.{file-good}
 use Rattle.whole.specs.Told.{summaryIn}

@@ -4,14 +4,12 @@ use Prim.Native.Nat.{ℕ}
 use mathlib.Core.Path.{_≡_, sym, ap, _∙_}
 use native.Mathlib.Omega.{arith}
 use denote.Ref.{now}
-use lib.ListN.{drop, length-drop}
-use Rattle.word.specs.Rules.{Answer, refused, _then_}
-use Rattle.format.specs.Reader.{Audio, wholeFile}
+use lib.ListN.{length-drop}
+use Rattle.word.specs.Rules.{Answer, _then_}
 use Rattle.whole.specs.Told.{summaryIn, toldFrames}
-use Rattle.whole.specs.Survey.{audioAfter, fitAfter}
-use Rattle.whole.specs.declared.answer.Summary.{Summary}
+use Rattle.whole.specs.Survey.{audioAfter}
 use Rattle.whole.specs.declared.answer.FramesAnswer.{FramesAnswer}
-use Rattle.whole.proofs.Surveying.{ample, no-frame, summary, surveyed}
+use Rattle.whole.proofs.Surveying.{no-frame, summary, surveyed}
 use Rattle.whole.proofs.need_after.Statement.{statement}
 use Rattle.whole.proofs.need_after.Tie as tie
 

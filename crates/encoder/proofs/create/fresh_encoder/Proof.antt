@@ -4,7 +4,6 @@ use mathlib.Core.Path.{ap}
 use mathlib.Core.List.{List}
 use native.Mathlib.Omega.{arith}
 use lib.ListN.{replicate, getD-replicate}
-use Rattle.word.specs.Written.{table}
 use Rattle.word.proofs.Tables.{table-ext}
 use Rattle.lms.specs.Predictor.{newLms}
 use Rattle.lms.specs.declared.QoaLms.{QoaLms}

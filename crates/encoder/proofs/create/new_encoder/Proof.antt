@@ -1,8 +1,7 @@
 -- `encoder::create::new_encoder` meets its contract, by those of its parts. Assumes nothing.
 use borrow.Author.Needs.{needs}
 use mathlib.Core.Path.{_≡_, refl, ap, sym, _∙_}
-use mathlib.Core.Option.{Option, none}
-use Prim.Native.Nat.{ℕ}
+use mathlib.Core.Option.{none}
 use Rattle.word.specs.Rules.{firstOf}
 use Rattle.header.specs.Refusals.{toldChecked}
 use Rattle.encoder.specs.Encoder.{createRules}

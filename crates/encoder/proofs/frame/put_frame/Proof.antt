@@ -1,14 +1,13 @@
 -- `encoder::frame::put_frame` meets its contract: the header, the predictors and the groups, one behind the other. Assumes nothing.
 use borrow.Author.Needs.{needs}
-use mathlib.Core.Path.{_≡_, refl, ap, sym, _∙_}
-use Prim.Native.Nat.{ℕ, _+_, _*_, _/_, _≤_, _<_}
+use mathlib.Core.Path.{_≡_, _∙_}
+use Prim.Native.Nat.{_+_, _*_, _/_, _≤_, _<_}
 use native.Mathlib.Omega.{arith}
 use lib.ListN.{length}
 use Rattle.word.proofs.BytesLaws.{length-put}
-use Rattle.header.specs.Format.{frameLength, maxChannels, mostRate, slicesOf, stateEnd}
+use Rattle.header.specs.Format.{frameLength, maxChannels, mostRate, stateEnd}
 use Rattle.header.specs.Predictor.{lmsOf}
 use Rattle.encoder.specs.Encoder.{view}
-use Rattle.encoder.specs.Frame.{laid, lmsBytes}
 use Rattle.encoder.proofs.Frames.{after-of, frame-of, frame-over, frame-small, frame-within}
 use Rattle.encoder.proofs.Laids.{length-states}
 use Rattle.encoder.proofs.Overlays.{length-over}

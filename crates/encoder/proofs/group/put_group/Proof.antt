@@ -2,7 +2,7 @@
 -- Assumes nothing.
 use mathlib.Core.Path.{_≡_, refl, sym, ap, _∙_}
 use mathlib.Core.List.{List}
-use Prim.Native.Nat.{ℕ, _+_, _*_, _-_, _≤_, _<_}
+use Prim.Native.Nat.{ℕ, _+_, _*_, _-_, _≤_}
 use native.Mathlib.Nat.{mul-one, zero-add}
 use native.Mathlib.Numerals.{add-one}
 use native.Mathlib.Omega.{arith}
@@ -14,8 +14,7 @@ use Rattle.word.proofs.BytesLaws.{length-bytes}
 use Rattle.word.proofs.Writes.{written-other}
 use Rattle.lms.specs.declared.QoaLms.{QoaLms}
 use Rattle.header.specs.Predictor.{lmsOf, noLms}
-use Rattle.search.specs.Search.{strided}
-use Rattle.search.specs.Search.{encodedSlice}
+use Rattle.search.specs.Search.{encodedSlice, strided}
 use Rattle.search.specs.declared.Encoded.{Encoded}
 use Rattle.encoder.specs.Frame.{laid}
 use Rattle.encoder.specs.Parts.{overlaid}

@@ -7,7 +7,7 @@ use native.Mathlib.Omega.{arith}
 use Rattle.word.proofs.Rules.{fires, none-fires}
 use Rattle.word.proofs.Tests.{tests}
 use Rattle.encoder.specs.Encoder.{goodEncoder, view}
-use Rattle.encoder.specs.OneShot.{headRules}
+use Rattle.encoder.specs.Head.{headRules}
 use Rattle.encoder.proofs.Done.{bad-first, good-first, head-done, head-refused}
 use Rattle.encoder.proofs.head.write_header.Statement.{statement}
 use Rattle.encoder.proofs.head.write_header.Tie as tie

@@ -1,6 +1,5 @@
 -- `whole::survey::first_of` meets its contract. Assumes nothing.
 use borrow.Author.Needs.{needs}
-use Prim.Native.Nat.{ℕ}
 use mathlib.Core.Path.{ap, sym}
 use Rattle.header.specs.Refusals.{toldChecked}
 use Rattle.header.specs.declared.refusal.Checked.{Checked}

@@ -1,20 +1,16 @@
 -- `whole::survey::walk_frames` meets its contract. The invariant: the answer for all frames is that for the frames from `at` on, with what was counted
 -- before them. Assumes nothing.
 use borrow.Author.Needs.{needs}
-use Prim.Native.Nat.{ℕ, _+_, _-_, _*_, _≤_, min}
+use Prim.Native.Nat.{ℕ, _+_, _-_, _≤_, min}
 use mathlib.Core.Path.{_≡_, refl, sym, ap, ap₂, _∙_}
-use mathlib.Core.Option.{Option, none, some}
-use native.Mathlib.Nat.{min-le-right}
 use native.Mathlib.Omega.{arith}
 use denote.Ref.{now}
 use lib.ListN.{length, drop}
 use Rattle.word.specs.Rules.{firstOf}
-use Rattle.header.specs.Header.{headerAt}
 use Rattle.header.specs.Refusals.{toldChecked}
-use Rattle.header.specs.Part.{lengthOf}
 use Rattle.format.proofs.Frames.{frame-eight}
 use Rattle.format.proofs.Needs.{countOf}
-use Rattle.whole.specs.Survey.{fitAfter, readerFor, rulesFor}
+use Rattle.whole.specs.Survey.{fitAfter, readerFor}
 use Rattle.whole.proofs.FrameKinds.{Whole, passed, rules-here}
 use Rattle.whole.proofs.Walking.{ended, refused-end, refused-turn, turn}
 use Rattle.whole.proofs.survey.walk_frames.Statement.{statement}

@@ -1,0 +1,92 @@
+-- Each public contract settles its call: what an answer tells is one-to-one, and any two answers that a contract permits are equal, with states of one view.
+-- Assumes nothing.
+use Prim.Native.Nat.{ℕ}
+use mathlib.Core.Path.{_≡_, refl, sym, ap, ap₂, _∙_}
+use mathlib.Core.List.{List}
+use mathlib.Core.Option.{Option, none, some}
+use native.Mathlib.Omega.{arith}
+use lib.IntN.{ℤ}
+use lib.ListN.{length}
+use Rattle.word.specs.Rules.{firstOf}
+use Rattle.header.specs.Refusals.{numberOf}
+use Rattle.header.proofs.Told.{never, number-one, refused-one}
+use Rattle.encoder.specs.Encoder.{View, view, createRules, newView, toldCreate}
+use Rattle.encoder.specs.Frame.{afterFrame}
+use Rattle.encoder.specs.Calls.{CreateDone, FrameDone, HandsBack, NewState, Told, frameTold, headMemory, headTold, refuses, refuses-14, toldEncode, wrote}
+use Rattle.encoder.specs.declared.CreateAnswer as C
+use Rattle.encoder.specs.declared.CreatedEncoder.{CreatedEncoder}
+use Rattle.encoder.specs.declared.EncodeAnswer as E
+use Rattle.encoder.specs.declared.EncodedBytes.{EncodedBytes}
+use Rattle.encoder.specs.declared.QoaEncoder.{QoaEncoder}
+
+-- ---- what is told is one-to-one
+
+pub told-create : (a b : C.CreateAnswer) → toldCreate a ≡ toldCreate b → a ≡ b
+told-create C.the-variants.Created C.the-variants.Created e = refl
+told-create C.the-variants.Created (C.the-variants.Refused s) e = never tt (numberOf s) e
+told-create (C.the-variants.Refused r) C.the-variants.Created e = never tt (numberOf r) (sym e)
+told-create (C.the-variants.Refused r) (C.the-variants.Refused s) e = ap C.the-variants.Refused (number-one r s (refused-one (numberOf r) (numberOf s) e))
+
+wrote-one : (m n : ℕ) → wrote m ≡ wrote n → m ≡ n
+wrote-one m n e = cc
+
+refuses-one : (m n : ℕ) → refuses m ≡ refuses n → m ≡ n
+refuses-one m n e = cc
+
+count-one : (m n i j : ℕ) → refuses-14 m i ≡ refuses-14 n j → m ≡ n
+count-one m n i j e = cc
+
+channel-one : (m n i j : ℕ) → refuses-14 m i ≡ refuses-14 n j → i ≡ j
+channel-one m n i j e = cc
+
+wrote-refuses : {X : Type 0} (m n : ℕ) → wrote m ≡ refuses n → X
+wrote-refuses m n e = let z : _≡_ {A = ℕ} 0 1 = cc in absurd (omega arith)
+
+wrote-14 : {X : Type 0} (m n j : ℕ) → wrote m ≡ refuses-14 n j → X
+wrote-14 m n j e = let z : _≡_ {A = ℕ} 0 1 = cc in absurd (omega arith)
+
+refuses-not-14 : {X : Type 0} (m n j : ℕ) → refuses m ≡ refuses-14 n j → X
+refuses-not-14 m n j e = let z : _≡_ {A = ℕ} 0 1 = cc in absurd (omega arith)
+
+pub told-encode : (a b : E.EncodeAnswer) → toldEncode a ≡ toldEncode b → a ≡ b
+told-encode (E.the-variants.Written m) (E.the-variants.Written n) e = ap E.the-variants.Written (wrote-one m n e)
+told-encode (E.the-variants.Written m) (E.the-variants.Refused s) e = wrote-refuses m (numberOf s) e
+told-encode (E.the-variants.Written m) (E.the-variants.WeightRange n j) e = wrote-14 m n j e
+told-encode (E.the-variants.Refused r) (E.the-variants.Written n) e = wrote-refuses n (numberOf r) (sym e)
+told-encode (E.the-variants.Refused r) (E.the-variants.Refused s) e = ap E.the-variants.Refused (number-one r s (refuses-one (numberOf r) (numberOf s) e))
+told-encode (E.the-variants.Refused r) (E.the-variants.WeightRange n j) e = refuses-not-14 (numberOf r) n j e
+told-encode (E.the-variants.WeightRange m i) (E.the-variants.Written n) e = wrote-14 n m i (sym e)
+told-encode (E.the-variants.WeightRange m i) (E.the-variants.Refused s) e = refuses-not-14 (numberOf s) m i (sym e)
+told-encode (E.the-variants.WeightRange m i) (E.the-variants.WeightRange n j) e = ap₂ E.the-variants.WeightRange (count-one m n i j e) (channel-one m n i j e)
+
+-- ---- new_encoder
+
+new-one : (o : Option ℕ) (v : View) (d e : QoaEncoder) → NewState o v d → NewState o v e → view d ≡ view e
+new-one none v d e p q = p ∙ sym q
+new-one (some n) v d e p q = ap view (p ∙ sym q)
+
+pub create-settled : (c rate total : ℕ) (r s : CreatedEncoder) → CreateDone c rate total r → CreateDone c rate total s → (r .answer ≡ s .answer) × (view (r .state) ≡ view (s .state))
+create-settled c rate total r s p q =
+    (told-create (r .answer) (s .answer) (p .told ∙ sym (q .told)), new-one (firstOf (createRules c rate total)) (newView c rate total) (r .state) (s .state) (p .made) (q .made))
+
+-- ---- write_header
+
+pub head-settled : (v : View) (out : List ℕ) (r s : E.EncodeAnswer) (x y : List ℕ) → (toldEncode r ≡ headTold v (length out)) × (x ≡ headMemory v out)
+    → (toldEncode s ≡ headTold v (length out)) × (y ≡ headMemory v out) → (r ≡ s) × (x ≡ y)
+head-settled v out r s x y p q = (told-encode r s (p .0 ∙ sym (q .0)), p .1 ∙ sym (q .1))
+
+-- ---- encode_frame
+
+-- two states that are handed back mean the same
+pub back-one : (t : Told) (given : QoaEncoder) (next : View) (d e : QoaEncoder) → HandsBack t given next d → HandsBack t given next e → view d ≡ view e
+back-one (wrote n) given next d e p q = p ∙ sym q
+back-one (refuses n) given next d e p q = ap view (p ∙ sym q)
+back-one (refuses-14 n j) given next d e p q = ap view (p ∙ sym q)
+
+pub frame-settled : (e : QoaEncoder) (samples : List ℤ) (out : List ℕ) (r s : EncodedBytes) (x y : List ℕ) → FrameDone e samples out r x → FrameDone e samples out s y
+    → (r .answer ≡ s .answer) × (x ≡ y) × (view (r .state) ≡ view (s .state))
+frame-settled e samples out r s x y p q = (
+  told-encode (r .answer) (s .answer) (p .told ∙ sym (q .told)),
+  p .memory ∙ sym (q .memory),
+  back-one (frameTold (view e) samples (length out)) e (afterFrame (view e) samples) (r .state) (s .state) (p .back) (q .back),
+)

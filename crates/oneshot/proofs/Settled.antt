@@ -1,0 +1,45 @@
+-- Each public contract settles its call: any two answers that it permits are equal, with states of one view. Assumes nothing.
+use Prim.Native.Nat.{ℕ}
+use mathlib.Core.Path.{_≡_, sym, ap, _∙_}
+use mathlib.Core.List.{List}
+use lib.IntN.{ℤ}
+use lib.ListN.{length}
+use Rattle.word.specs.Rules.{after, good}
+use Rattle.word.proofs.Rules.{good-same}
+use Rattle.header.specs.Refusals.{numberOf}
+use Rattle.header.proofs.Told.{never, number-one, refused-one}
+use Rattle.encoder.specs.Encoder.{view}
+use Rattle.encoder.specs.declared.EncodeAnswer.{EncodeAnswer}
+use Rattle.encoder.specs.declared.EncodedBytes.{EncodedBytes}
+use Rattle.encoder.specs.declared.QoaEncoder.{QoaEncoder}
+use Rattle.encoder.proofs.Settled.{back-one, told-encode}
+use Rattle.oneshot.specs.OneShot.{before, framesOf, needOf, needRules, shotRules}
+use Rattle.oneshot.specs.Shots.{AllDone, ShotDone, shotTold, toldNeed}
+use Rattle.oneshot.specs.declared.need.NeedAnswer as N
+
+-- ---- encode
+
+pub shot-settled : (e : QoaEncoder) (samples : List ℤ) (out : List ℕ) (r s : EncodedBytes) (x y : List ℕ) → ShotDone e samples out r x → ShotDone e samples out s y
+    → (r .answer ≡ s .answer) × (x ≡ y) × (view (r .state) ≡ view (s .state))
+shot-settled e samples out r s x y p q = (
+  told-encode (r .answer) (s .answer) (p .told ∙ sym (q .told)),
+  p .memory ∙ sym (q .memory),
+  back-one (shotTold (shotRules (view e) samples (length out)) (view e) samples) e (before (view e) samples (framesOf (view e))) (r .state) (s .state) (p .back) (q .back),
+)
+
+-- ---- encode_all
+
+pub all-settled : (c rate total : ℕ) (samples : List ℤ) (out : List ℕ) (r s : EncodeAnswer) (x y : List ℕ) → AllDone c rate total samples out r x → AllDone c rate total samples out s y
+    → (r ≡ s) × (x ≡ y)
+all-settled c rate total samples out r s x y p q = (told-encode r s (p .told ∙ sym (q .told)), p .memory ∙ sym (q .memory))
+
+-- ---- encode_need
+
+pub told-need : (a b : N.NeedAnswer) → toldNeed a ≡ toldNeed b → a ≡ b
+told-need (N.the-variants.Bytes m) (N.the-variants.Bytes n) e = ap N.the-variants.Bytes (good-same m n e)
+told-need (N.the-variants.Bytes m) (N.the-variants.Refused s) e = never m (numberOf s) e
+told-need (N.the-variants.Refused r) (N.the-variants.Bytes n) e = never n (numberOf r) (sym e)
+told-need (N.the-variants.Refused r) (N.the-variants.Refused s) e = ap N.the-variants.Refused (number-one r s (refused-one (numberOf r) (numberOf s) e))
+
+pub need-settled : (c total : ℕ) (a b : N.NeedAnswer) → toldNeed a ≡ after (needRules c total) (good (needOf c total)) → toldNeed b ≡ after (needRules c total) (good (needOf c total)) → a ≡ b
+need-settled c total a b p q = told-need a b (p ∙ sym q)

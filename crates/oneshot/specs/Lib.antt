@@ -1,0 +1,4 @@
+-- What the contracts cite.
+pub mod OneShot
+pub mod Shots
+pub mod Parts

@@ -1,0 +1,5 @@
+-- Laws of the C interface.
+pub mod Codes
+pub mod Fitting
+pub mod Opened
+pub mod Encoding

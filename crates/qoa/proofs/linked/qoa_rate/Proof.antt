@@ -1,0 +1,61 @@
+-- `qoa::linked::qoa_rate` meets its contract. Assumes nothing.
+use borrow.Author.Needs.{needs}
+use mathlib.Core.Path.{sym, ap, _∙_}
+use native.Mathlib.Omega.{arith}
+use denote.Ref.{now}
+use lib.IntN.{ℤ}
+use mir.Syntax.{w64}
+use Rattle.word.specs.Rules.{Answer, good, _then_}
+use Rattle.wrap.proofs.Integers.{returned, read-pos}
+use Rattle.format.specs.Reader.{audioIn}
+use Rattle.whole.specs.Told.{toldNeed}
+use Rattle.whole.specs.declared.answer.Summary.{Summary}
+use Rattle.whole.specs.declared.answer.NeedAnswer.{NeedAnswer}
+use Rattle.qoa.specs.Coded.{coded}
+use Rattle.qoa.proofs.Codes.{part-of}
+use Rattle.qoa.proofs.linked.qoa_rate.Statement.{statement}
+use Rattle.qoa.proofs.linked.qoa_rate.Tie as tie
+
+decode-need-requires : tie.Need-decode-need-requires
+decode-need-requires c κs = search needs
+
+enum-known-r : tie.Need-enum-known-r
+enum-known-r c = search needs
+
+minus-requires : tie.Need-minus-requires
+minus-requires c κs = search needs
+
+enum-known-summary : tie.Need-enum-known-summary
+enum-known-summary c = search needs
+
+cast-result : tie.Need-cast-result
+cast-result c = search needs
+
+-- the code of what the summary tells
+abbrev part : Answer Summary → ℤ
+part a = coded (a then λ s. good (s .rate))
+
+returns : tie.Need-returns
+returns c =
+    returned w64 (c .minus .result) (c .minus .ok)
+    (c .minus .ensures
+    ∙ ap (λ (a : NeedAnswer). part (toldNeed a)) (sym (c .before .before .r .given .1))
+    ∙ part-of (λ s. s .rate) (audioIn (now (c .before .before .before .before .before .before .args .bytes))) _ (c .before .before .before .before .decode-need .ensures))
+
+returns-2 : tie.Need-returns-2
+returns-2 c =
+    read-pos w64 _ (omega arith)
+    ∙ ap (λ (a : NeedAnswer). part (toldNeed a)) (sym (c .before .before .summary .given .1))
+    ∙ part-of (λ s. s .rate) (audioIn (now (c .before .before .before .before .before .before .args .bytes))) _ (c .before .before .before .before .decode-need .ensures)
+
+pub qoa-rate-spec : {M : Type 1} → statement M
+qoa-rate-spec =
+    tie.close
+    (tie.spec
+    decode-need-requires
+    enum-known-r
+    minus-requires
+    enum-known-summary
+    cast-result
+    returns
+    returns-2)

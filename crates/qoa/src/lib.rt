@@ -1,0 +1,70 @@
+// The face: every public call, in document 01's order, and the C interface.
+pub mod linked;
+
+// Opening a decoder: the first refusal, or a state by value at the start of the file.
+pub use state::OpenAnswer;
+pub use state::OpenedDecoder;
+pub use state::ProcessingMode;
+pub use state::QoaDecoder;
+pub use state::open_decoder;
+
+// A decoder's facts: total, channels, rate, length in seconds.
+pub use header::Facts;
+pub use state::FactsAnswer;
+pub use state::facts_given;
+
+// Samples of the current frame into a lent buffer, as many as there are or fit.
+pub use decoder::DecodedInto;
+pub use decoder::IntoAnswer;
+pub use decoder::decode_into;
+
+// On to the next frame, over what remains of this one.
+pub use decoder::FrameAnswer;
+pub use decoder::NextFrame;
+pub use decoder::next_frame;
+pub use state::FrameFacts;
+
+// One item: a frame header, a sample, the end.
+pub use decoder::NextItem;
+pub use decoder::QoaItem;
+pub use decoder::next_item;
+
+// A whole file into lent samples, and what it needs.
+pub use whole::DecodeAnswer;
+pub use whole::NeedAnswer;
+pub use whole::Summary;
+pub use whole::decode_all;
+pub use whole::decode_need;
+
+// Streaming frames into lent samples, without a state.
+pub use whole::FramesAnswer;
+pub use whole::decode_frames;
+
+// The frame part: its length, and the caller's own bytes.
+pub use header::PartAnswer;
+pub use header::frame_part;
+pub use header::part_length;
+
+// A new encoder, a state by value.
+pub use encoder::CreateAnswer;
+pub use encoder::CreatedEncoder;
+pub use encoder::QoaEncoder;
+pub use encoder::new_encoder;
+
+// The file header into lent bytes.
+pub use encoder::EncodeAnswer;
+pub use encoder::write_header;
+
+// A frame into lent bytes.
+pub use encoder::EncodedBytes;
+pub use encoder::encode_frame;
+
+// A whole file into lent bytes, from an encoder or from a new one, and what it needs.
+pub use oneshot::NeedAnswer as BytesAnswer;
+pub use oneshot::encode;
+pub use oneshot::encode_all;
+pub use oneshot::encode_need;
+
+// Why a call refuses, and the refusal's number.
+pub use header::Refusal;
+pub use header::number;

@@ -1,0 +1,215 @@
+// The C interface: numbers and slices only, a slice as a pointer and a length. An answer is a count, or minus the number of
+// the refusal.
+ghost use mathlib.Core.Path.{_≡_};
+ghost use Prim.Native.Nat.{_<_, _^_};
+ghost use lib.IntN.{negℤ, pos};
+ghost use lib.ListN.{length};
+ghost use Rattle.word.specs.Rules.{after, good, refused, _then_};
+ghost use Rattle.header.specs.Part.{partLength};
+ghost use Rattle.header.specs.Refusals.{numberOf};
+ghost use Rattle.state.specs.Facts.{toldFacts};
+ghost use Rattle.format.specs.Reader.{audioIn, decode};
+ghost use Rattle.format.specs.Streaming.{streamed};
+ghost use Rattle.whole.specs.Told.{countIn, heardIn, kept};
+ghost use Rattle.encoder.specs.Calls.{refuses-14};
+ghost use Rattle.encoder.specs.Encoder.{newView};
+ghost use Rattle.oneshot.specs.OneShot.{needOf, needRules};
+ghost use Rattle.oneshot.specs.Shots.{allRules, shotMemory, shotTold};
+ghost use Rattle.qoa.specs.Coded.{channelsIn, coded, codedSeconds, codedEncode, openedFacts, rateIn, samplesIn};
+use encoder::EncodeAnswer;
+use header::part::PartAnswer;
+use header::refusal::Refusal;
+use oneshot::need::NeedAnswer as BytesAnswer;
+use state::FactsAnswer;
+use state::OpenAnswer;
+use whole::answer::DecodeAnswer;
+use whole::answer::FramesAnswer;
+use whole::answer::NeedAnswer;
+
+// Minus a number.
+fn negated(n: usize) -> i64
+    requires { ⌜ n < 2 ^ 63 ⌝ }
+    ensures { λ r. ⌜ r ≡ negℤ (pos n) ⌝ }
+{
+    0 - (n as i64)
+}
+
+// Minus the number of a refusal.
+fn minus(refusal: Refusal) -> i64
+    ensures { λ r. ⌜ r ≡ coded (refused (numberOf refusal)) ⌝ }
+{
+    negated(header::number(refusal) as usize)
+}
+
+// A count.
+fn count(n: usize) -> i64
+    requires { ⌜ n < 2 ^ 63 ⌝ }
+    ensures { λ r. ⌜ r ≡ pos n ⌝ }
+{
+    n as i64
+}
+
+// A whole file into lent samples: how many. Nothing past them is touched, and nothing at all on a refusal.
+#[no_mangle]
+pub extern "C" fn qoa_decode_all(bytes: &[u8], out: &mut [i16]) -> i64
+    ensures answer { λ r. ⌜ r ≡ coded (samplesIn (decode (length (now (out .entry))) (now (bytes .entry)))) ⌝ }
+    ensures samples { λ r. ⌜ now (out .exit) ≡ kept (heardIn (decode (length (now (out .entry))) (now (bytes .entry)))) (now (out .entry)) ⌝ }
+{
+    match whole::decode_all(bytes, out) {
+        DecodeAnswer::Refused(r) => minus(r),
+        DecodeAnswer::Decoded(summary) => count(summary.count),
+    }
+}
+
+// How many samples a whole file has, over all channels.
+#[no_mangle]
+pub extern "C" fn qoa_decode_need(bytes: &[u8]) -> i64
+    ensures { λ r. ⌜ r ≡ coded (samplesIn (audioIn (now (bytes .entry)))) ⌝ }
+{
+    match whole::decode_need(bytes) {
+        NeedAnswer::Refused(r) => minus(r),
+        NeedAnswer::Need(summary) => count(summary.count),
+    }
+}
+
+// The channels of a whole file.
+#[no_mangle]
+pub extern "C" fn qoa_channels(bytes: &[u8]) -> i64
+    ensures { λ r. ⌜ r ≡ coded (channelsIn (audioIn (now (bytes .entry)))) ⌝ }
+{
+    match whole::decode_need(bytes) {
+        NeedAnswer::Refused(r) => minus(r),
+        NeedAnswer::Need(summary) => summary.channels as i64,
+    }
+}
+
+// The rate of a whole file.
+#[no_mangle]
+pub extern "C" fn qoa_rate(bytes: &[u8]) -> i64
+    ensures { λ r. ⌜ r ≡ coded (rateIn (audioIn (now (bytes .entry)))) ⌝ }
+{
+    match whole::decode_need(bytes) {
+        NeedAnswer::Refused(r) => minus(r),
+        NeedAnswer::Need(summary) => summary.rate as i64,
+    }
+}
+
+// Whole frames one after another into lent samples: how many.
+#[no_mangle]
+pub extern "C" fn qoa_decode_frames(bytes: &[u8], out: &mut [i16]) -> i64
+    ensures answer { λ r. ⌜ r ≡ coded (countIn (streamed (length (now (out .entry))) (now (bytes .entry)))) ⌝ }
+    ensures samples { λ r. ⌜ now (out .exit) ≡ kept (streamed (length (now (out .entry))) (now (bytes .entry))) (now (out .entry)) ⌝ }
+{
+    match whole::decode_frames(bytes, out) {
+        FramesAnswer::Refused(r) => minus(r),
+        FramesAnswer::Count(n) => count(n),
+    }
+}
+
+// The length of the frame part at a place.
+#[no_mangle]
+pub extern "C" fn qoa_part_length(bytes: &[u8], at: usize) -> i64
+    ensures { λ r. ⌜ r ≡ coded (partLength (now (bytes .entry)) at) ⌝ }
+{
+    match header::part_length(bytes, at) {
+        PartAnswer::Refused(r) => minus(r),
+        PartAnswer::Whole(n) => count(n),
+    }
+}
+
+// The facts of a file at its start.
+fn opened_facts(bytes: &[u8]) -> FactsAnswer
+    ensures { λ r. ⌜ toldFacts r ≡ openedFacts (now (bytes .entry)) ⌝ }
+{
+    let opened = state::open_decoder(bytes);
+    let answer = opened.answer;
+    match answer {
+        OpenAnswer::Refused(r) => FactsAnswer::Refused(r),
+        OpenAnswer::Opened => {
+            let state = opened.state;
+            state::facts_given(state, bytes)
+        }
+    }
+}
+
+// The declared total of samples per channel; 0 is a stream.
+#[no_mangle]
+pub extern "C" fn qoa_facts_total(bytes: &[u8]) -> i64
+    ensures { λ r. ⌜ r ≡ coded (openedFacts (now (bytes .entry)) then λ f. good (f .total)) ⌝ }
+{
+    match opened_facts(bytes) {
+        FactsAnswer::Refused(r) => minus(r),
+        FactsAnswer::Known(facts) => facts.total as i64,
+    }
+}
+
+// The first frame's channels; 0 in a stream, of which no frame is read.
+#[no_mangle]
+pub extern "C" fn qoa_facts_channels(bytes: &[u8]) -> i64
+    ensures { λ r. ⌜ r ≡ coded (openedFacts (now (bytes .entry)) then λ f. good (f .channels)) ⌝ }
+{
+    match opened_facts(bytes) {
+        FactsAnswer::Refused(r) => minus(r),
+        FactsAnswer::Known(facts) => facts.channels as i64,
+    }
+}
+
+// The first frame's rate; 0 in a stream.
+#[no_mangle]
+pub extern "C" fn qoa_facts_rate(bytes: &[u8]) -> i64
+    ensures { λ r. ⌜ r ≡ coded (openedFacts (now (bytes .entry)) then λ f. good (f .rate)) ⌝ }
+{
+    match opened_facts(bytes) {
+        FactsAnswer::Refused(r) => minus(r),
+        FactsAnswer::Known(facts) => facts.rate as i64,
+    }
+}
+
+// The length in seconds; 0.0 in a stream, which has none. A refusal is minus its number.
+#[no_mangle]
+pub extern "C" fn qoa_facts_seconds(bytes: &[u8]) -> f64
+    ensures { λ r. ⌜ r ≡ codedSeconds (openedFacts (now (bytes .entry)) then λ f. good (f .length)) ⌝ }
+{
+    match opened_facts(bytes) {
+        FactsAnswer::Refused(r) => minus(r) as f64,
+        FactsAnswer::Known(facts) => facts.length,
+    }
+}
+
+// Refusal 14, with the bytes that stand in the output and the channel.
+fn wide(bytes: usize, channel: u8) -> i64
+    requires { ⌜ bytes < 2 ^ 40 ⌝ }
+    ensures { λ r. ⌜ r ≡ codedEncode (refuses-14 bytes channel) ⌝ }
+{
+    negated(14 + 256 * (channel as usize) + 65536 * bytes)
+}
+
+// Samples into a whole file in lent bytes: how many bytes.
+#[no_mangle]
+pub extern "C" fn qoa_encode_all(
+    channels: u8,
+    rate: u32,
+    total: u32,
+    samples: &[i16],
+    out: &mut [u8],
+) -> i64
+    ensures answer { λ r. ⌜ r ≡ codedEncode (shotTold (allRules channels rate total (now (samples .entry)) (length (now (out .entry)))) (newView channels rate total) (now (samples .entry))) ⌝ }
+    ensures bytes { λ r. ⌜ now (out .exit) ≡ shotMemory (allRules channels rate total (now (samples .entry)) (length (now (out .entry)))) (newView channels rate total) (now (samples .entry)) (now (out .entry)) ⌝ }
+{
+    match oneshot::encode_all(channels, rate, total, samples, out) {
+        EncodeAnswer::Refused(r) => minus(r),
+        EncodeAnswer::Written(n) => count(n),
+        EncodeAnswer::WeightRange { count: n, channel } => wide(n, channel),
+    }
+}
+
+// How many bytes a whole file takes.
+#[no_mangle]
+pub extern "C" fn qoa_encode_need(channels: u8, total: u32) -> i64
+    ensures { λ r. ⌜ r ≡ coded (after (needRules channels total) (good (needOf channels total))) ⌝ }
+{
+    match oneshot::encode_need(channels, total) {
+        BytesAnswer::Refused(r) => minus(r),
+        BytesAnswer::Bytes(n) => count(n),
+    }
+}

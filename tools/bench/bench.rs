@@ -1,0 +1,94 @@
+//! Times the port beside the source: one process, in turn, the thread's processor time, the least of many rounds. The port
+//! writes into lent memory that was written before, the source into a vector of its own, as each is used.
+#[path = "../oracle/signals.rs"]
+#[allow(dead_code)]
+mod signals;
+
+use qoaudio::QoaDesc;
+use std::hint::black_box;
+
+extern "C" {
+    fn qoa_decode_all(bytes: *const u8, length: usize, out: *mut i16, room: usize) -> i64;
+    fn qoa_encode_all(
+        channels: u8,
+        rate: u32,
+        total: u32,
+        samples: *const i16,
+        count: usize,
+        out: *mut u8,
+        room: usize,
+    ) -> i64;
+    fn clock_gettime(clock: i32, time: *mut [i64; 2]) -> i32;
+}
+
+/// The thread's processor time in nanoseconds.
+fn now() -> i64 {
+    const CLOCK_THREAD_CPUTIME_ID: i32 = 3;
+    let mut t = [0; 2];
+    assert!(unsafe { clock_gettime(CLOCK_THREAD_CPUTIME_ID, &mut t) } == 0);
+    t[0] * 1_000_000_000 + t[1]
+}
+
+fn timed(call: &mut dyn FnMut()) -> i64 {
+    let start = now();
+    call();
+    now() - start
+}
+
+/// The least time of each, called in turn.
+fn least<const N: usize>(rounds: usize, mut calls: [&mut dyn FnMut(); N]) -> [i64; N] {
+    let mut best = [i64::MAX; N];
+    for _ in 0..rounds {
+        for (i, call) in calls.iter_mut().enumerate() {
+            best[i] = best[i].min(timed(call));
+        }
+    }
+    best
+}
+
+/// Samples over all channels of a run.
+const SAMPLES: usize = 400_000;
+
+fn main() {
+    let rounds = std::env::args().nth(1).map_or(30, |n| n.parse().unwrap());
+    println!("| signal | channels | decode_all: source | port | ratio | encode_all: source | port | ratio |");
+    println!("|---|---|---|---|---|---|---|---|");
+    for kind in signals::KINDS {
+        for c in [1, 2, 8] {
+            let n = SAMPLES / c;
+            let samples = signals::signal(kind, n, c);
+            let desc = QoaDesc { channels: c as u8, sample_rate: 44100, samples: n as u32 };
+            let file = qoaudio::encode_all(&samples, &desc).unwrap();
+            let mut out = vec![0i16; n * c];
+            let mut made = vec![0u8; file.len()];
+            let [source, port, source_enc, port_enc] = least(
+                rounds,
+                [
+                    &mut || drop(black_box(qoaudio::decode_all(black_box(&file[..])).map(|a| a.samples.len()))),
+                    &mut || unsafe {
+                        let count = qoa_decode_all(black_box(file.as_ptr()), file.len(), out.as_mut_ptr(), out.len());
+                        assert!(count == (n * c) as i64);
+                    },
+                    &mut || drop(black_box(qoaudio::encode_all(black_box(&samples), &desc).map(|b| b.len()))),
+                    &mut || unsafe {
+                        let from = black_box(samples.as_ptr());
+                        let (to, room) = (made.as_mut_ptr(), made.len());
+                        let count = qoa_encode_all(c as u8, 44100, n as u32, from, n * c, to, room);
+                        assert!(count == room as i64);
+                    },
+                ],
+            );
+            assert!(made == file);
+            let each = |t: i64| t as f64 / (n * c) as f64;
+            println!(
+                "| {kind} | {c} | {:.2} | {:.2} | {:.2} | {:.1} | {:.1} | {:.2} |",
+                each(source),
+                each(port),
+                port as f64 / source as f64,
+                each(source_enc),
+                each(port_enc),
+                port_enc as f64 / source_enc as f64
+            );
+        }
+    }
+}
