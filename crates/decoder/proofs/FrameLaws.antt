@@ -140,7 +140,7 @@ module _ (bs : List ℕ) (d : QoaDecoder) where
 
 module _ (mode : ProcessingMode) (h : FrameHeader) (left : ℕ) where
   pub frame-by-header : (n : ℕ) → firstOf (headerRules h) ≡ some n → firstOf (frameRules mode h left) ≡ some n
-  frame-by-header n e = fires-left (headerRules h) (modeRules mode h ++ cutRules (stateEnd (h .channels)) left) n e
+  frame-by-header n e = fires-left (headerRules h) _ n e
 
   pub frame-by-mode : (n : ℕ) → firstOf (headerRules h) ≡ none → firstOf (modeRules mode h) ≡ some n → firstOf (frameRules mode h left) ≡ some n
   frame-by-mode n e m =

@@ -163,6 +163,7 @@ pub fn enter_frame(d: QoaDecoder, bytes: &[u8], place: usize) -> NextFrame
     }
 }
 
+// A refusal hands back the state that it was given.
 fn refused_frame(d: QoaDecoder, refusal: Refusal) -> NextFrame
     ensures { λ r. ⌜ (r .answer ≡ Refused refusal) × (r .state ≡ d) ⌝ }
 {

@@ -130,6 +130,7 @@ fn groups_for(channels: usize, samples: usize) -> usize
     (samples + (group - 1)) / group
 }
 
+// A refusal hands back the state that it was given.
 fn refused(d: QoaDecoder, refusal: Refusal) -> DecodedInto
     ensures { λ r. ⌜ (r .answer ≡ Refused refusal) × (r .state ≡ d) ⌝ }
 {

@@ -2,8 +2,9 @@
 ghost use mathlib.Core.Path.{_≡_};
 ghost use mathlib.Core.Bool.{true};
 ghost use mathlib.Core.List.{List};
-ghost use Prim.Native.Nat.{ℕ, _≤_, _<_};
+ghost use Prim.Native.Nat.{ℕ, _*_, _≤_, _<_};
 ghost use lib.ListN.{length};
+ghost use Rattle.header.specs.Format.{maxChannels};
 ghost use Rattle.state.specs.View.{view};
 ghost use Rattle.state.specs.States.{goodState};
 ghost use Rattle.decoder.specs.declared.QoaItem.the-variants.{Refused};
@@ -20,7 +21,7 @@ use state::QoaDecoder;
 
 // The first of the pending samples.
 fn pending_item(d: QoaDecoder) -> NextItem
-    requires { ⌜ (d .next < d .end) × (d .end ≤ 160) ⌝ }
+    requires { ⌜ (d .next < d .end) × (d .end ≤ 20 * maxChannels) ⌝ }
     ensures { λ r. ⌜ ((bs : List ℕ) → TurnDone from-pending bs d r) ⌝ }
 {
     let next = d.next;
@@ -54,6 +55,7 @@ fn header_item(d: QoaDecoder) -> NextItem
     }
 }
 
+// A refusal hands back the state that it was given.
 fn refused_item(d: QoaDecoder, refusal: Refusal) -> NextItem
     ensures { λ r. ⌜ (r .item ≡ Refused refusal) × (r .state ≡ d) ⌝ }
 {

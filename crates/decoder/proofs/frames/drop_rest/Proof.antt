@@ -3,6 +3,7 @@ use mathlib.Core.Path.{_≡_, ap}
 use Prim.Native.Nat.{ℕ, _+_, _*_, _≤_}
 use native.Mathlib.Omega.{arith}
 use lib.ListN.{length}
+use Rattle.header.specs.Format.{maxChannels}
 use Rattle.state.specs.View.{view}
 use Rattle.decoder.proofs.Counts.{slices-most}
 use Rattle.decoder.proofs.FrameLaws.{view-dropped}
@@ -14,7 +15,7 @@ use Rattle.decoder.proofs.frames.drop_rest.Tie as tie
 facts : (c : tie.Start) → Sound (c .args .d) (length (c .args .bytes .now))
 facts c = sound (c .args .d) (length (c .args .bytes .now)) (c .pre .0)
 
-long : (c : tie.Start) → length (c .args .d .lms) ≡ 8
+long : (c : tie.Start) → length (c .args .d .lms) ≡ maxChannels
 long c = search length-mapped
 
 small : (c : tie.Start) → c .args .d .remaining ≤ 65535

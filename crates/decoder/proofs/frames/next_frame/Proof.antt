@@ -6,7 +6,7 @@ use native.Mathlib.Nat.{mul-le-mul}
 use native.Mathlib.Omega.{arith}
 use borrow.Author.Tests.{not-false, not-true}
 use lib.ListN.{length}
-use Rattle.header.specs.Format.{slicesOf}
+use Rattle.header.specs.Format.{maxChannels, slicesOf}
 use Rattle.state.specs.View.{view}
 use Rattle.state.specs.States.{goodState}
 use Rattle.state.specs.declared.QoaDecoder.{QoaDecoder}
@@ -58,8 +58,8 @@ place-is : (c : tie.After-slices-of) →
 unfolding view
 place-is c = ap (λ (k : ℕ). start-of c .args .d .at + 8 * (k * start-of c .args .d .frame .channels)) (sym (c .slices-of .ensures))
 
-slices-small : (c : tie.After-slices-of) → c .slices-of .result * start-of c .args .d .frame .channels ≤ 3277 * 8
-slices-small c = mul-le-mul {n₂ = 3277} {m₂ = 8} (omega (arith, c .slices-of .ensures, slices-most (start-of c .args .d .remaining) (small (start-of c)))) (facts (first-of c) .few-channels)
+slices-small : (c : tie.After-slices-of) → c .slices-of .result * start-of c .args .d .frame .channels ≤ 3277 * maxChannels
+slices-small c = mul-le-mul {n₂ = 3277} {m₂ = maxChannels} (omega (arith, c .slices-of .ensures, slices-most (start-of c .args .d .remaining) (small (start-of c)))) (facts (first-of c) .few-channels)
 
 cast-channels : tie.Need-cast-channels
 cast-channels c = search needs

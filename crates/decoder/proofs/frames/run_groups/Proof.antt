@@ -6,6 +6,7 @@ use native.Mathlib.Nat.{mul-le-mul-right}
 use native.Mathlib.Omega.{arith}
 use lib.Dec.{lit<, lit≤}
 use lib.ListN.{length}
+use Rattle.header.specs.Format.{maxChannels}
 use Rattle.lms.proofs.Bounds.{within-more}
 use Rattle.slice.specs.Groups.{groupsStates}
 use Rattle.slice.proofs.GroupLaws.{groups-more}
@@ -16,7 +17,7 @@ use Rattle.decoder.proofs.frames.run_groups.Statement.{statement}
 use Rattle.decoder.proofs.frames.run_groups.Tie as tie
 
 abbrev Inv-loop : tie.InvT-loop
-Inv-loop bytes at channels groups tab scratch₀ all₀ g₀ scratch all g = (g ≤ groups) × (all ≡ groupsStates bytes at channels all₀ g) × (length scratch ≡ 160)
+Inv-loop bytes at channels groups tab scratch₀ all₀ g₀ scratch all g = (g ≤ groups) × (all ≡ groupsStates bytes at channels all₀ g) × (length scratch ≡ 20 * maxChannels)
 
 abbrev μ-loop : tie.MeasureT-loop
 μ-loop bytes at channels groups tab scratch₀ all₀ g₀ scratch all g = groups - g

@@ -2,14 +2,14 @@
 use mathlib.Core.Path.{_≡_}
 use native.Mathlib.Omega.{arith}
 use lib.ListN.{length}
-use Rattle.header.specs.Format.{stateEnd}
+use Rattle.header.specs.Format.{maxChannels, stateEnd}
 use Rattle.decoder.proofs.FrameLaws.{view-started}
 use Rattle.decoder.proofs.Sound.{length-mapped}
 use borrow.Author.Needs.{needs}
 use Rattle.decoder.proofs.frames.start_frame.Statement.{statement}
 use Rattle.decoder.proofs.frames.start_frame.Tie as tie
 
-long : (c : tie.Start) → length (c .args .d .lms) ≡ 8
+long : (c : tie.Start) → length (c .args .d .lms) ≡ maxChannels
 long c = search length-mapped
 
 cast-channels : tie.Need-cast-channels

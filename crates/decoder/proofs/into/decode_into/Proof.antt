@@ -7,6 +7,7 @@ use native.Mathlib.Omega.{arith}
 use borrow.Author.Needs.{needs}
 use borrow.Author.Tests.{not-false, not-true}
 use lib.ListN.{length}
+use Rattle.header.specs.Format.{maxChannels}
 use Rattle.state.specs.View.{total, view}
 use Rattle.state.specs.States.{goodState}
 use Rattle.decoder.specs.Into.{groupsFor}
@@ -46,7 +47,7 @@ small c = start-small (c .before .before .before)
     start-small c = search needs
 
 -- the samples of what remains of the frame
-product : (c : tie.Else1) → c .before .before .before .args .d .remaining * c .before .before .before .args .d .frame .channels ≤ 65535 * 8
+product : (c : tie.Else1) → c .before .before .before .args .d .remaining * c .before .before .before .args .d .frame .channels ≤ 65535 * maxChannels
 product c = mul-le-mul (small c) (facts c .few-channels)
 
 cast-channels : tie.Need-cast-channels
@@ -124,12 +125,12 @@ some-channels c =
 groups-for-requires : tie.Need-groups-for-requires
 groups-for-requires c κs = (some-channels c, facts (first-of (c .before .before)) .few-channels, omega (arith, more-there c, product (first-of (c .before .before))))
 
-groups-small : (c : tie.After-groups-for) → c .groups-for .result * start-of (c .before .before) .args .d .frame .channels ≤ 600000 * 8
+groups-small : (c : tie.After-groups-for) → c .groups-for .result * start-of (c .before .before) .args .d .frame .channels ≤ 65555 * maxChannels * maxChannels
 groups-small c =
     let s = facts (first-of (c .before .before .before)) in
     let d = start-of (c .before .before) .args .d in
     let most = groups-most (d .frame .channels) (c .before .before .lesser .result - (d .end - d .next)) in
-    mul-le-mul {n₂ = 600000} {m₂ = 8} (omega (arith, c .groups-for .ensures, s .few-channels, more-there (c .before), product (first-of (c .before .before .before)))) (s .few-channels)
+    mul-le-mul {n₂ = 65555 * maxChannels} {m₂ = maxChannels} (omega (arith, c .groups-for .ensures, s .few-channels, more-there (c .before), product (first-of (c .before .before .before)))) (s .few-channels)
 
 mul-if3 : tie.Need-mul-if3
 mul-if3 c = omega (arith, groups-small c)
