@@ -3,3 +3,4 @@ pub mod Codes
 pub mod Fitting
 pub mod Opened
 pub mod Encoding
+pub mod Apart
