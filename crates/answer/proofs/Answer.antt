@@ -1,7 +1,8 @@
 -- The theorems of demand 3: what a clerk hears is what the converter heard. Read this file first: the statements are all that a visitor needs of it, next
 -- to the definitions that they cite. `decode room bytes` is whole-file decoding into an output with room for so many samples: `good` and what is heard, or
 -- a refusal by its number (format/specs/Reader). `IsCut k bytes` says that the grammar cuts the bytes into the parts k: a file header, one or more frames,
--- a tail (header/specs/Grammar). A `Finished` file is one that the writer finishes (specs/Finished). Assumes nothing.
+-- a tail (header/specs/Grammar). A `Finished` file is one that the writer finishes (specs/Finished). Theorem 6, that each public call has one answer, has
+-- a file of its own beside this one, Settled, with a line for each call. Assumes nothing.
 use Prim.Native.Nat.{ℕ, _≤_}
 use mathlib.Core.Path.{_≡_, ap, sym, _∙_}
 use mathlib.Core.List.{List, [], _∷_}

@@ -1,4 +1,4 @@
--- The theorems are in Answer; what they rest on stands above it, from a channel up.
+-- The theorems are in Answer, and in Settled one for each public call; what those of Answer rest on stands above it, from a channel up.
 pub mod Channels
 pub mod Predictors
 pub mod Blocks
@@ -10,3 +10,4 @@ pub mod Finishing
 pub mod Outputs
 pub mod Examples
 pub mod Answer
+pub mod Settled

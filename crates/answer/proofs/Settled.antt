@@ -1,0 +1,119 @@
+-- Theorem 6: each public call has one answer. Any two answers that its contract permits are equal, what is left in lent memory is equal, and states that are
+-- handed back have one view. A theorem for each call, in the order of README.md's table; the premises are the contract, twice. Assumes nothing.
+use Prim.Native.Nat.{ℕ}
+use mathlib.Core.Path.{_≡_, sym, _∙_}
+use mathlib.Core.List.{List}
+use lib.IntN.{ℤ}
+use lib.ListN.{length}
+use Rattle.word.specs.Rules.{after, firstOf, good}
+use Rattle.header.specs.Part.{partLength, partOf, toldPart}
+use Rattle.header.specs.declared.part.PartAnswer.{PartAnswer}
+use Rattle.header.proofs.Told.{told-part}
+use Rattle.state.specs.Facts.{factsAnswer, toldFacts}
+use Rattle.state.specs.Opening.{OpenLeaves, openRules, toldOpen}
+use Rattle.state.specs.View.{view}
+use Rattle.state.specs.declared.FactsAnswer.{FactsAnswer}
+use Rattle.state.specs.declared.OpenedDecoder.{OpenedDecoder}
+use Rattle.state.specs.declared.QoaDecoder.{QoaDecoder}
+use Rattle.state.proofs.Settled as S
+use Rattle.decoder.specs.Into.{IntoDone}
+use Rattle.decoder.specs.Frames.{NextDone}
+use Rattle.decoder.specs.Items.{ItemDone}
+use Rattle.decoder.specs.declared.DecodedInto.{DecodedInto}
+use Rattle.decoder.specs.declared.NextFrame.{NextFrame}
+use Rattle.decoder.specs.declared.NextItem.{NextItem}
+use Rattle.decoder.proofs.Settled as D
+use Rattle.format.specs.Reader.{audioIn, decode}
+use Rattle.format.specs.Streaming.{streamed}
+use Rattle.whole.specs.Told.{countIn, heardIn, kept, summaryIn, toldDecoded, toldFrames, toldNeed}
+use Rattle.whole.specs.declared.answer.DecodeAnswer.{DecodeAnswer}
+use Rattle.whole.specs.declared.answer.NeedAnswer.{NeedAnswer}
+use Rattle.whole.specs.declared.answer.FramesAnswer.{FramesAnswer}
+use Rattle.whole.proofs.Answers.{told-decoded, told-frames, told-need}
+use Rattle.encoder.specs.Encoder as E
+use Rattle.encoder.specs.Calls.{CreateDone, FrameDone, headMemory, headTold, toldEncode}
+use Rattle.encoder.specs.declared.CreatedEncoder.{CreatedEncoder}
+use Rattle.encoder.specs.declared.EncodeAnswer.{EncodeAnswer}
+use Rattle.encoder.specs.declared.EncodedBytes.{EncodedBytes}
+use Rattle.encoder.specs.declared.QoaEncoder.{QoaEncoder}
+use Rattle.encoder.proofs.Settled.{create-settled, frame-settled, head-settled}
+use Rattle.oneshot.specs.OneShot.{needOf, needRules}
+use Rattle.oneshot.specs.Shots as O
+use Rattle.oneshot.specs.declared.need.NeedAnswer as N
+use Rattle.oneshot.proofs.Settled.{all-settled, need-settled, shot-settled}
+
+-- ---- the calls on a decoder
+
+pub open-decoder : (bs : List ℕ) (r s : OpenedDecoder)
+    → (toldOpen (r .answer) ≡ after (openRules bs) (good tt)) × OpenLeaves (firstOf (openRules bs)) bs (r .state)
+    → (toldOpen (s .answer) ≡ after (openRules bs) (good tt)) × OpenLeaves (firstOf (openRules bs)) bs (s .state)
+    → (r .answer ≡ s .answer) × (view (r .state) ≡ view (s .state))
+open-decoder bs r s = S.open-settled bs (r .answer) (s .answer) (r .state) (s .state)
+
+pub facts-given : (d : QoaDecoder) (bs : List ℕ) (r s : FactsAnswer) → toldFacts r ≡ factsAnswer (view d) (length bs) → toldFacts s ≡ factsAnswer (view d) (length bs) → r ≡ s
+facts-given d bs = S.facts-settled d (length bs)
+
+pub decode-into : (bs : List ℕ) (d : QoaDecoder) (out : List ℤ) (r s : DecodedInto) (x y : List ℤ) → IntoDone bs d out r x → IntoDone bs d out s y
+    → (r .answer ≡ s .answer) × (view (r .state) ≡ view (s .state)) × (x ≡ y)
+decode-into = D.decode-into-settled
+
+pub next-frame : (bs : List ℕ) (d : QoaDecoder) (r s : NextFrame) → NextDone bs d r → NextDone bs d s → (r .answer ≡ s .answer) × (view (r .state) ≡ view (s .state))
+next-frame = D.next-frame-settled
+
+pub next-item : (bs : List ℕ) (d : QoaDecoder) (r s : NextItem) → ItemDone bs d r → ItemDone bs d s → (r .item ≡ s .item) × (view (r .state) ≡ view (s .state))
+next-item = D.next-item-settled
+
+-- ---- whole files, streaming frames, the frame part
+
+pub decode-all : (bs : List ℕ) (out : List ℤ) (r s : DecodeAnswer) (x y : List ℤ)
+    → (toldDecoded r ≡ summaryIn (decode (length out) bs)) × (x ≡ kept (heardIn (decode (length out) bs)) out)
+    → (toldDecoded s ≡ summaryIn (decode (length out) bs)) × (y ≡ kept (heardIn (decode (length out) bs)) out)
+    → (r ≡ s) × (x ≡ y)
+decode-all bs out r s x y p q = (told-decoded r s (p .0 ∙ sym (q .0)), p .1 ∙ sym (q .1))
+
+pub decode-need : (bs : List ℕ) (r s : NeedAnswer) → toldNeed r ≡ summaryIn (audioIn bs) → toldNeed s ≡ summaryIn (audioIn bs) → r ≡ s
+decode-need bs r s p q = told-need r s (p ∙ sym q)
+
+pub decode-frames : (bs : List ℕ) (out : List ℤ) (r s : FramesAnswer) (x y : List ℤ)
+    → (toldFrames r ≡ countIn (streamed (length out) bs)) × (x ≡ kept (streamed (length out) bs) out)
+    → (toldFrames s ≡ countIn (streamed (length out) bs)) × (y ≡ kept (streamed (length out) bs) out)
+    → (r ≡ s) × (x ≡ y)
+decode-frames bs out r s x y p q = (told-frames r s (p .0 ∙ sym (q .0)), p .1 ∙ sym (q .1))
+
+pub part-length : (bs : List ℕ) (at : ℕ) (r s : PartAnswer) → toldPart r ≡ partLength bs at → toldPart s ≡ partLength bs at → r ≡ s
+part-length bs at r s p q = told-part r s (p ∙ sym q)
+
+pub frame-part : (bs : List ℕ) (at : ℕ) (r s : List ℕ) → r ≡ partOf (partLength bs at) bs at → s ≡ partOf (partLength bs at) bs at → r ≡ s
+frame-part bs at r s p q = p ∙ sym q
+
+-- ---- the calls on an encoder
+
+pub new-encoder : (c rate total : ℕ) (r s : CreatedEncoder) → CreateDone c rate total r → CreateDone c rate total s → (r .answer ≡ s .answer) × (E.view (r .state) ≡ E.view (s .state))
+new-encoder = create-settled
+
+pub write-header : (e : QoaEncoder) (out : List ℕ) (r s : EncodeAnswer) (x y : List ℕ)
+    → (toldEncode r ≡ headTold (E.view e) (length out)) × (x ≡ headMemory (E.view e) out)
+    → (toldEncode s ≡ headTold (E.view e) (length out)) × (y ≡ headMemory (E.view e) out)
+    → (r ≡ s) × (x ≡ y)
+write-header e = head-settled (E.view e)
+
+pub encode-frame : (e : QoaEncoder) (samples : List ℤ) (out : List ℕ) (r s : EncodedBytes) (x y : List ℕ) → FrameDone e samples out r x → FrameDone e samples out s y
+    → (r .answer ≡ s .answer) × (x ≡ y) × (E.view (r .state) ≡ E.view (s .state))
+encode-frame = frame-settled
+
+pub encode : (e : QoaEncoder) (samples : List ℤ) (out : List ℕ) (r s : EncodedBytes) (x y : List ℕ) → O.ShotDone e samples out r x → O.ShotDone e samples out s y
+    → (r .answer ≡ s .answer) × (x ≡ y) × (E.view (r .state) ≡ E.view (s .state))
+encode = shot-settled
+
+pub encode-all : (c rate total : ℕ) (samples : List ℤ) (out : List ℕ) (r s : EncodeAnswer) (x y : List ℕ) → O.AllDone c rate total samples out r x → O.AllDone c rate total samples out s y
+    → (r ≡ s) × (x ≡ y)
+encode-all = all-settled
+
+pub encode-need : (c total : ℕ) (r s : N.NeedAnswer) → O.toldNeed r ≡ after (needRules c total) (good (needOf c total)) → O.toldNeed s ≡ after (needRules c total) (good (needOf c total)) → r ≡ s
+encode-need = need-settled
+
+-- ---- the refusal's number, and the C functions (qoa_decode_all, qoa_decode_need, qoa_channels, qoa_rate, qoa_decode_frames, qoa_part_length, the four
+-- qoa_facts_, qoa_encode_all, qoa_encode_need): each contract is one equation for the answer and one for the lent memory
+
+pub by-equation : {A : Type 0} (x r s : A) → r ≡ x → s ≡ x → r ≡ s
+by-equation x r s p q = p ∙ sym q
