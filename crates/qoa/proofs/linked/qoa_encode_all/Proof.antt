@@ -7,7 +7,9 @@ use lib.ListN.{length}
 use mir.Syntax.{w64}
 use Rattle.wrap.proofs.Integers.{returned}
 use Rattle.encoder.specs.Calls.{Told, toldEncode}
+use Rattle.encoder.specs.Encoder.{newView}
 use Rattle.encoder.specs.declared.EncodeAnswer.{EncodeAnswer}
+use Rattle.oneshot.specs.Shots.{allRules, shotTold}
 use Rattle.qoa.specs.Coded.{codedEncode}
 use Rattle.qoa.proofs.Encoding.{Small, encoded-small}
 use Rattle.qoa.proofs.linked.qoa_encode_all.Statement.{statement}
@@ -41,15 +43,20 @@ enum-known-n-2 c = search needs
 wide-requires : tie.Need-wide-requires
 wide-requires c κs = small (c .before .before .before .before .before) _ (c .before .n2 .given .1)
 
+-- and its code is the contract's
+as-told : (c : tie.After-encode-all) (a : EncodeAnswer) → c .encode-all .result ≡ a
+    → codedEncode (toldEncode a)
+      ≡ let args = c .before .before .before .args in
+        let rules = allRules (args .channels) (args .rate) (args .total) (now (args .samples)) (length (now (args .out))) in
+        codedEncode (shotTold rules (newView (args .channels) (args .rate) (args .total)) (now (args .samples)))
+as-told c a e = ap (λ (x : EncodeAnswer). codedEncode (toldEncode x)) (sym e) ∙ ap codedEncode (c .encode-all .ensures .told)
+
 same-length : tie.Need-same-length
 same-length c = search needs
 
 returns : tie.Need-returns
 returns c = (
-  returned w64 (c .minus .result) (c .minus .ok)
-      (c .minus .ensures
-      ∙ ap (λ (a : EncodeAnswer). codedEncode (toldEncode a)) (sym (c .before .before .r .given .1))
-      ∙ ap codedEncode (c .before .before .before .before .before .before .encode-all .ensures .told)),
+  returned w64 (c .minus .result) (c .minus .ok) (c .minus .ensures ∙ as-told (c .before .before .before .before .before .before) _ (c .before .before .r .given .1)),
   c .before .before .before .before .before .before .encode-all .ensures .memory,
 )
 
@@ -58,10 +65,7 @@ same-length-2 c = search needs
 
 returns-2 : tie.Need-returns-2
 returns-2 c = (
-  returned w64 (c .count .result) (c .count .ok)
-      (c .count .ensures
-      ∙ ap (λ (a : EncodeAnswer). codedEncode (toldEncode a)) (sym (c .before .before .n .given .1))
-      ∙ ap codedEncode (c .before .before .before .before .before .before .encode-all .ensures .told)),
+  returned w64 (c .count .result) (c .count .ok) (c .count .ensures ∙ as-told (c .before .before .before .before .before .before) _ (c .before .before .n .given .1)),
   c .before .before .before .before .before .before .encode-all .ensures .memory,
 )
 
@@ -70,10 +74,7 @@ same-length-3 c = search needs
 
 returns-3 : tie.Need-returns-3
 returns-3 c = (
-  returned w64 (c .wide .result) (c .wide .ok)
-      (c .wide .ensures
-      ∙ ap (λ (a : EncodeAnswer). codedEncode (toldEncode a)) (sym (c .before .before .n2 .given .1))
-      ∙ ap codedEncode (c .before .before .before .before .before .before .encode-all .ensures .told)),
+  returned w64 (c .wide .result) (c .wide .ok) (c .wide .ensures ∙ as-told (c .before .before .before .before .before .before) _ (c .before .before .n2 .given .1)),
   c .before .before .before .before .before .before .encode-all .ensures .memory,
 )
 
