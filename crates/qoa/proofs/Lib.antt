@@ -4,3 +4,4 @@ pub mod Fitting
 pub mod Opened
 pub mod Encoding
 pub mod Apart
+pub mod Naming
