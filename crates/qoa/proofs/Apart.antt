@@ -23,7 +23,7 @@ pos-neg m (suc n) l e = let z : _≡_ {A = ℕ} 0 1 = cc in absurd (omega arith)
 
 -- ---- a count, or a refusal
 
-abbrev pub Named : Answer ℕ → Type 0
+abbrev pub Named : {A : Type 0} → Answer A → Type 0
 Named (refused n) = 0 < n
 Named (good n) = Unit {0}
 

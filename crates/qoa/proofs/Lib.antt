@@ -5,3 +5,4 @@ pub mod Opened
 pub mod Encoding
 pub mod Apart
 pub mod Naming
+pub mod Refusing

@@ -1,0 +1,160 @@
+-- No refusal of a call has the number 0, so that a code tells what the call told: a refusal is never taken for a count. Assumes nothing.
+use Prim.Native.Nat.{ℕ, zero, suc, _<_}
+use mathlib.Core.Path.{_≡_}
+use mathlib.Core.Bool.{Bool, true, false, cond}
+use mathlib.Core.List.{List, [], _∷_, _++_}
+use lib.Dec.{lit<, ltb}
+use lib.ListN.{drop, length, take}
+use Rattle.word.specs.Rules.{Answer, Rule, _gives_, after, firstOf, good, refused, _then_}
+use Rattle.header.specs.FileHeader.{fileRules, isFixed, totalOf}
+use Rattle.header.specs.Format.{stateEnd}
+use Rattle.header.specs.Header.{goodHeader, headerAt, headerRules, leftAt}
+use Rattle.header.specs.Part.{cutRules, lengthOf, partLength}
+use Rattle.header.specs.declared.frame.FrameHeader.{FrameHeader}
+use Rattle.state.specs.Opening.{firstRules, openRules}
+use Rattle.format.specs.Reader.{audioIn, body, bodyFor, cutOf, decode, frameRules, inOrder, otherRules, sameRules, wholeFile, withFirst}
+use Rattle.format.specs.Streaming.{freeFrames, freeRules, samplesIn, streamed}
+use Rattle.format.specs.Walk.{Reader, Walk, afterFrame, ends, frameAt, step, walkBy, walkOf}
+use Rattle.oneshot.specs.OneShot.{needRules}
+use Rattle.qoa.specs.Coded.{coded, openedFacts}
+use Rattle.qoa.proofs.Apart.{Named, coded-one}
+
+-- ---- rules
+
+-- no rule gives 0
+abbrev Numbers : List Rule → Type 0
+Numbers [] = Unit {0}
+Numbers ((test gives n) ∷ rules) = (0 < n) × Numbers rules
+
+both : (a b : List Rule) → Numbers a → Numbers b → Numbers (a ++ b)
+both [] b p q = q
+both ((test gives n) ∷ a) b p q = (p .0, both a b (p .1) q)
+
+module _ {A : Type 0} where
+  named-after : (l : List Rule) (a : Answer A) → Numbers l → Named a → Named (after l a)
+  unfolding firstOf
+  named-after [] a p q = q
+  named-after ((true gives n) ∷ l) a p q = p .0
+  named-after ((false gives n) ∷ l) a p q = named-after l a (p .1) q
+
+module _ {A B : Type 0} where
+  named-then : (a : Answer A) (f : A → Answer B) → Named a → ((x : A) → Named (f x)) → Named (a then f)
+  named-then (refused n) f p q = p
+  named-then (good x) f p q = q x
+
+header-numbers : (h : FrameHeader) → Numbers (headerRules h)
+unfolding headerRules
+header-numbers h = (lit< tt, (lit< tt, (lit< tt, (lit< tt, (lit< tt, (lit< tt, tt))))))
+
+cut-numbers : (whole left : ℕ) → Numbers (cutRules whole left)
+cut-numbers whole left = (lit< tt, tt)
+
+file-numbers : (bs : List ℕ) → Numbers (fileRules bs)
+unfolding fileRules
+file-numbers bs = (lit< tt, (lit< tt, (lit< tt, tt)))
+
+same-numbers : (c r : ℕ) (h : FrameHeader) → Numbers (sameRules c r h)
+same-numbers c r h = (lit< tt, (lit< tt, tt))
+
+order-numbers : (fixed : Bool) (same state : List Rule) → Numbers same → Numbers state → Numbers (inOrder fixed same state)
+order-numbers true same state p q = both same state p q
+order-numbers false same state p q = both state same q p
+
+frame-numbers : (fixed : Bool) (c r : ℕ) (h : FrameHeader) (left : ℕ) → Numbers (frameRules fixed c r h left)
+unfolding frameRules otherRules
+frame-numbers fixed c r h left =
+    both (headerRules h) (otherRules fixed c r h left) (header-numbers h)
+    (both (inOrder fixed (sameRules c r h) (cutRules (stateEnd (h .channels)) left)) (cutRules (lengthOf h) left)
+    (order-numbers fixed (sameRules c r h) (cutRules (stateEnd (h .channels)) left) (same-numbers c r h) (cut-numbers (stateEnd (h .channels)) left))
+    (cut-numbers (lengthOf h) left))
+
+-- ---- a walk
+
+module _ (R : Reader) (frames : (b : List ℕ) → Numbers (R .frame b)) (tails : (n : ℕ) → Numbers (R .tail n)) where
+  named-ends : (b : List ℕ) → Named (ends R b)
+  named-ends b = named-after (R .tail (length b)) _ (tails (length b)) tt
+
+  by-size : (small : Bool) (b : List ℕ) (rest : Answer Walk) → Named rest → Named (step R small b (firstOf (R .frame b)) rest)
+  by-size true b rest p = named-ends b
+  by-size false b rest p = named-after (R .frame b) _ (frames b) (named-then rest _ p (λ w. tt))
+
+  named-walk-by : (fuel : ℕ) (b : List ℕ) → Named (walkBy R fuel b)
+  unfolding walkBy
+  named-walk-by zero b = named-ends b
+  named-walk-by (suc fuel) b = by-size (ltb (length b) 8) b (walkBy R fuel (afterFrame b)) (named-walk-by fuel (afterFrame b))
+
+  named-walk : (b : List ℕ) → Named (walkOf R b)
+  unfolding walkOf
+  named-walk b = named-walk-by (length b) b
+
+-- ---- the calls
+
+named-body : (fixed : Bool) (c r : ℕ) (b : List ℕ) → Named (bodyFor fixed c r b)
+unfolding bodyFor
+named-body fixed c r b =
+    named-after _ _ (lit< tt, tt)
+    (named-after _ _ (frame-numbers fixed c r (headerAt b 0) (length b))
+    (named-walk (wholeFile fixed c r) (λ x. frame-numbers fixed c r (headerAt x 0) (length x)) (λ n. (lit< tt, tt)) (afterFrame b)))
+
+named-cut : (b : List ℕ) → Named (cutOf b)
+unfolding cutOf
+named-cut b =
+    let fixed = isFixed (totalOf b) in
+    let first = headerAt (drop 8 b) 0 in
+    named-after (fileRules b) _ (file-numbers b)
+    (named-then (body fixed (drop 8 b)) (withFirst (take 8 b) (frameAt (drop 8 b))) (named-body fixed (first .channels) (first .rate) (drop 8 b)) (λ w. tt))
+
+pub named-audio : (b : List ℕ) → Named (audioIn b)
+unfolding audioIn
+named-audio b = named-after _ _ (lit< tt, tt) (named-then (cutOf b) _ (named-cut b) (λ k. tt))
+
+pub named-decode : (room : ℕ) (b : List ℕ) → Named (decode room b)
+unfolding decode
+named-decode room b = named-then (audioIn b) _ (named-audio b) (λ a. named-after _ (good a) (lit< tt, tt) tt)
+
+free-numbers : (h : FrameHeader) (left : ℕ) → Numbers (freeRules h left)
+unfolding freeRules
+free-numbers h left = both (headerRules h) (cutRules (lengthOf h) left) (header-numbers h) (cut-numbers (lengthOf h) left)
+
+pub named-streamed : (room : ℕ) (b : List ℕ) → Named (streamed room b)
+unfolding streamed samplesIn
+named-streamed room b =
+    named-then (samplesIn b) _
+    (named-then (walkOf freeFrames b) _ (named-walk freeFrames (λ x. free-numbers (headerAt x 0) (length x)) (λ n. (lit< tt, tt)) b) (λ w. tt))
+    (λ xs. named-after _ (good xs) (lit< tt, tt) tt)
+
+pub named-part : (bs : List ℕ) (at : ℕ) → Named (partLength bs at)
+unfolding partLength goodHeader
+named-part bs at =
+    named-then (goodHeader bs at) _
+    (named-after _ _ (lit< tt, tt) (named-after _ (good (headerAt bs at)) (header-numbers (headerAt bs at)) tt))
+    (λ h. named-after _ (good (lengthOf h)) (cut-numbers (lengthOf h) (leftAt bs at)) tt)
+
+first-numbers : (bs : List ℕ) → Numbers (firstRules bs)
+first-numbers bs = (
+  lit< tt,
+  both (headerRules (headerAt bs 8)) _ (header-numbers (headerAt bs 8)) (cut-numbers (stateEnd (headerAt bs 8 .channels)) (leftAt bs 8)),
+)
+
+by-mode : (fixed : Bool) (l : List Rule) → Numbers l → Numbers (cond fixed l [])
+by-mode true l p = p
+by-mode false l p = tt
+
+pub named-facts : (bs : List ℕ) → Named (openedFacts bs)
+unfolding openedFacts openRules
+named-facts bs =
+    named-after (openRules bs) _ (both (fileRules bs) _ (file-numbers bs) (by-mode (isFixed (totalOf bs)) (firstRules bs) (first-numbers bs))) tt
+
+pub named-need : (c total n : ℕ) → Named (after (needRules c total) (good n))
+unfolding needRules
+named-need c total n = named-after (needRules c total) (good n) (lit< tt, (lit< tt, (lit< tt, tt))) tt
+
+-- ---- what is told by a code
+
+module _ {A : Type 0} (f : A → ℕ) where
+  -- a number of what a call tells
+  abbrev counted : Answer A → Answer ℕ
+  counted a = a then λ x. good (f x)
+
+  pub told-by-code : (a b : Answer A) → Named a → Named b → coded (counted a) ≡ coded (counted b) → counted a ≡ counted b
+  told-by-code a b p q = coded-one (counted a) (counted b) (named-then a (λ x. good (f x)) p (λ x. tt)) (named-then b (λ x. good (f x)) q (λ x. tt))
