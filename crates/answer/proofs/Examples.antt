@@ -14,14 +14,14 @@ use Rattle.trial.specs.Trial.{codeTried, sumTried, tried, valueTried}
 use Rattle.header.specs.Format.{frameLength, slicesOf, stateEnd}
 use Rattle.header.specs.Header.{headerWord}
 use Rattle.header.specs.Predictor.{fourWord}
-use Rattle.state.specs.States.{below, historyRule}
+use Rattle.state.specs.States.{allShort, below, historyRule}
 use Rattle.search.specs.Candidate.{after, beats, candidate, exceeds, runFrom, startOf, stepOf, verdict}
 use Rattle.search.specs.Search.{bestAfter, chosen, dearer, encodedSlice, firstCost, insert, leaderOf, ordered, searched, strided, traceFrom, traceOf, unheard}
 use Rattle.search.specs.Reconstruction.{reconstructed, sumsTried}
 use Rattle.format.proofs.Examples.{oneSample}
 use Rattle.encoder.specs.Channel.{lmsBefore, slicePart, sliceWord, sumAt}
 use Rattle.encoder.specs.Encoder.{createRules, goodEncoder, newView}
-use Rattle.encoder.specs.Frame.{allShort, firstWide, frameBytes, frameSums, laid}
+use Rattle.encoder.specs.Frame.{firstWide, frameBytes, frameSums, laid}
 use Rattle.oneshot.specs.OneShot.{before, bytesBefore, chunk, framesIn, needOf, shotRules, stopIn, sumsBefore}
 use Rattle.encoder.specs.Head.{headBytes}
 use Rattle.oneshot.specs.Shots.{shotTold}

@@ -33,7 +33,8 @@ use Rattle.encoder.proofs.Channels.{length-part}
 use Rattle.encoder.proofs.Frames.{length-frame, length-sums}
 use Rattle.encoder.proofs.GoodEncoders.{Good}
 use Rattle.encoder.proofs.Laids.{length-lms, length-states, length-words}
-use Rattle.encoder.proofs.Wides.{short-fits, wide-none}
+use Rattle.state.proofs.GoodStates.{short-fits}
+use Rattle.encoder.proofs.Wides.{wide-none}
 use Rattle.answer.proofs.Blocks.{at-block}
 use Rattle.answer.proofs.Channels.{channel-heard}
 use Rattle.answer.proofs.Predictors.{firstFour, four-channel, lms-read}

@@ -1,38 +1,20 @@
--- Laws of numbers in 16 bits, and of the first channel that has a weight out of them. Assumes nothing.
+-- Laws of the first channel that has a weight out of 16 bits. Assumes nothing.
 use Prim.Native.Nat.{ℕ, zero, suc, _≤_, _<_}
 use mathlib.Core.Path.{_≡_, refl, ap₂, subst}
 use mathlib.Core.Bool.{Bool, true, false, cond}
 use mathlib.Core.List.{List}
 use mathlib.Core.Option.{Option, none, some}
-use mathlib.Core.Logic.{dite, ⊎-elim}
-use native.Mathlib.Decide.{decLt}
+use mathlib.Core.Logic.{⊎-elim}
 use native.Mathlib.Nat.{eq-or-lt-of-le, le-of-suc-le-suc, not-suc-le-zero}
 use native.Mathlib.Omega.{arith}
-use borrow.Author.Tests.{lt-ltb, ltb-true}
-use lib.Dec.{ltb}
 use lib.IntN.{ℤ, pos, negsuc, natAbs}
-use lib.ListN.{length, List·getD-eq-default}
 use lib.Signed.{mag}
-use mir.Syntax.{w16}
-use mir.Val.{SFits}
 use Rattle.lms.specs.Predictor.{at, WeightsWithin}
 use Rattle.lms.specs.declared.QoaLms.{QoaLms}
 use Rattle.header.specs.Predictor.{lmsOf}
-use Rattle.state.proofs.Belows.{below-all, below-at}
-use Rattle.encoder.specs.Frame.{allShort, firstWide, orThen}
-
--- ---- numbers
-
-pub short-fits : (xs : List ℤ) → allShort xs ≡ true → (i : ℕ) → SFits w16 (at xs i)
-unfolding allShort
-short-fits xs e i =
-    dite (decLt i (length xs))
-    (λ inside. record { sfits = ltb-true (mag (at xs i)) 32768 (below-at (λ i. ltb (mag (at xs i)) 32768) (length xs) e i inside) })
-    (λ past. let end : at xs i ≡ pos 0 = List·getD-eq-default xs (pos 0) (omega arith) in rw end (record { sfits = omega arith }))
-
-pub fits-short : (xs : List ℤ) → ((i : ℕ) → SFits w16 (at xs i)) → allShort xs ≡ true
-unfolding allShort
-fits-short xs f = below-all (λ i. ltb (mag (at xs i)) 32768) (length xs) (λ i l. lt-ltb (mag (at xs i)) 32768 (f i .sfits))
+use Rattle.state.specs.States.{allShort}
+use Rattle.state.proofs.GoodStates.{short-fits}
+use Rattle.encoder.specs.Frame.{firstWide, orThen}
 
 abs-mag : (z : ℤ) → natAbs z ≤ suc (mag z)
 abs-mag (pos n) = omega arith

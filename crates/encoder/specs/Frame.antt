@@ -6,7 +6,6 @@ use mathlib.Core.Option.{Option, none, some}
 use lib.Dec.{eqb, ltb}
 use lib.IntN.{ℤ}
 use lib.ListN.{length}
-use lib.Signed.{mag}
 use Rattle.word.specs.Bytes.{bytesOf}
 use Rattle.word.specs.Rules.{Rule, _gives_}
 use Rattle.word.specs.Written.{table}
@@ -16,7 +15,7 @@ use Rattle.header.specs.Format.{frameLength, slicesOf}
 use Rattle.header.specs.Header.{headerWord}
 use Rattle.header.specs.Predictor.{fourWord, lmsOf}
 use Rattle.header.specs.declared.frame.FrameHeader.{FrameHeader}
-use Rattle.state.specs.States.{below}
+use Rattle.state.specs.States.{allShort}
 use Rattle.search.specs.Search.{strided}
 use Rattle.encoder.specs.Encoder.{View, goodEncoder}
 use Rattle.encoder.specs.Channel.{lmsBefore, sliceWord, sumAt}
@@ -84,10 +83,6 @@ frameRules v samples room =
     ∷ (ltb 5120 (perChannel v samples) gives 13)
     ∷ (ltb room (frameLength (v .channels) (perChannel v samples)) gives 7)
     ∷ []
-
--- numbers in -32768..32767
-unfoldable pub allShort : List ℤ → Bool
-allShort xs = below (length xs) (λ i. ltb (mag (at xs i)) 32768)
 
 -- 14: the first of n channels with a weight outside of it
 abbrev pub orThen : Option ℕ → Option ℕ → Option ℕ

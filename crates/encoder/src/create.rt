@@ -9,11 +9,11 @@ ghost use Rattle.encoder.specs.Calls.{CreateDone};
 use crate::CreateAnswer;
 use crate::CreatedEncoder;
 use crate::QoaEncoder;
-use crate::rules::QOA_MOST_RATE;
 use header::frame::QOA_MAX_CHANNELS;
 use header::refusal::Checked;
 use header::refusal::Refusal;
 use lms::QoaLms;
+use state::rules::QOA_MOST_RATE;
 
 // The refusals of a creation, in document 01's order.
 fn check_create(channels: u8, rate: u32, total: u32) -> Checked

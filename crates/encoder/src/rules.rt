@@ -1,41 +1,18 @@
 // The state rules of an encoder, and the range of its weights.
 ghost use mathlib.Core.Path.{_≡_};
 ghost use Prim.Native.Nat.{_≤_};
-ghost use lib.Dec.{ltb};
-ghost use lib.Signed.{mag};
 ghost use Rattle.header.specs.Format.{maxChannels};
 ghost use Rattle.header.specs.Predictor.{lmsOf};
 ghost use Rattle.state.specs.States.{below, historyRule};
 ghost use Rattle.encoder.specs.Encoder.{goodEncoder, view};
-ghost use Rattle.encoder.specs.Frame.{allShort, firstWide};
+ghost use Rattle.encoder.specs.Frame.{firstWide};
 ghost use Rattle.encoder.specs.Parts.{toldWide};
 use crate::QoaEncoder;
 use crate::Wide;
-use header::frame::QOA_LMS_LEN;
 use header::frame::QOA_MAX_CHANNELS;
 use lms::QoaLms;
-
-// The highest rate that 24 bits hold.
-pub const QOA_MOST_RATE: u32 = 16777215;
-
-// A number of 16 bits.
-fn is_short(x: i32) -> bool
-    ensures { λ r. ⌜ r ≡ ltb (mag x) 32768 ⌝ }
-{
-    if x < -32768 { false } else { x <= 32767 }
-}
-
-// Numbers of 16 bits.
-fn are_short(xs: [i32; 4]) -> bool
-    ensures { λ r. ⌜ r ≡ allShort xs ⌝ }
-{
-    for i in 0..QOA_LMS_LEN {
-        if !is_short(xs[i]) {
-            return false;
-        }
-    }
-    true
-}
+use state::rules::QOA_MOST_RATE;
+use state::rules::are_short;
 
 // The histories of the used channels are in 16 bits.
 fn are_good_histories(states: [QoaLms; QOA_MAX_CHANNELS], channels: usize) -> bool

@@ -4,13 +4,13 @@ use mathlib.Core.Path.{_≡_, sym, ap, _∙_}
 use mathlib.Core.List.{List}
 use mathlib.Core.Logic.{dite}
 use native.Mathlib.Decide.{decLt}
-use native.Mathlib.Nat.{add-zero, mod-lt, mul-le-mul-right, mul-zero, not-suc-le-zero}
+use native.Mathlib.Nat.{add-zero, mod-lt, mul-le-mul-right, mul-one, mul-zero, not-suc-le-zero, zero-add}
 use native.Mathlib.Omega.{arith}
 use lib.IntN.{ℤ}
-use lib.ListN.{length, set, take, drop}
-use lib.Seq.{getD-set-other, getD-set-same}
-use Rattle.word.specs.Written.{table}
+use lib.ListN.{length, take, drop}
+use Rattle.word.specs.Written.{table, written}
 use Rattle.word.proofs.Tables.{getD-table, table-ext}
+use Rattle.word.proofs.Writes.{written-at}
 use Rattle.lms.specs.declared.QoaLms.{QoaLms}
 use Rattle.header.specs.Format.{frameLength, slicesOf, stateEnd}
 use Rattle.header.specs.Header.{headerAt}
@@ -90,15 +90,11 @@ module _ (b : List ℕ) (at : ℕ) (h : FrameHeader) (states : List QoaLms) (the
       ∙ samples-by f h (rw cut at whole)
       ∙ table-ext (countOf h) _ (groupsAt b (at + stateEnd (h .channels)) (h .channels) states) sample-here
 
--- one state more is read
-pub states-more : (b : List ℕ) (at j : ℕ) (states : List QoaLms) (s : QoaLms) → s ≡ lmsAt b (at + (8 + 16 * j)) → j < length states → StatesAt b at j states
-    → StatesAt b at (j + 1) (set states j s)
-states-more b at j states s e room there i l =
-    dite (decLt i j)
-    (λ before. getD-set-other states j i s noLms (λ same. omega arith) ∙ there i before)
-    (λ after.
-    let same : i ≡ j = omega arith in
-    ap (lmsOf (set states j s)) same ∙ getD-set-same states j s noLms room ∙ e ∙ ap (λ (k : ℕ). lmsAt b (at + (8 + 16 * k))) (sym same))
+-- those that are read there
+pub states-read : (b : List ℕ) (at c : ℕ) (unread : List QoaLms) → c ≤ length unread → StatesAt b at c (written (λ j. lmsAt b (at + 8 + 16 * j)) unread 0 1 c)
+states-read b at c unread room j l =
+    rw (zero-add, mul-one) at (written-at (λ j. lmsAt b (at + 8 + 16 * j)) unread 0 1 c j noLms (omega arith) l (omega arith))
+    ∙ ap (lmsAt b) (omega arith)
 
 -- the weights are of 16 bits
 pub states-within : (b : List ℕ) (at c : ℕ) (states : List QoaLms) → AreBytes b → StatesAt b at c states → AllWithin 32768 c states

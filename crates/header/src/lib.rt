@@ -32,6 +32,7 @@ pub use part::PartAnswer;
 pub use part::frame_part;
 pub use part::part_length;
 pub use predictor::read_lms;
+pub use predictor::read_states;
 pub use predictor::write_lms;
 pub use refusal::Checked;
 pub use refusal::Refusal;

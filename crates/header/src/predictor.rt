@@ -1,12 +1,15 @@
 // A channel's predictor state in a frame: four history and four weight numbers of 16 bits, each four in one word.
 ghost use mathlib.Core.Path.{_≡_};
-ghost use Prim.Native.Nat.{_+_, _<_, _≤_};
+ghost use Prim.Native.Nat.{_+_, _*_, _<_, _≤_};
 ghost use lib.ListN.{length};
 ghost use mir.Syntax.{w16};
 ghost use mir.Val.{toZ};
 ghost use Rattle.word.specs.Word.{field};
+ghost use Rattle.word.specs.Written.{written};
 ghost use Rattle.wrap.specs.Wrap.{low16};
+ghost use Rattle.header.specs.Format.{maxChannels};
 ghost use Rattle.header.specs.Predictor.{fourOf, fourWord, lmsAt, putLms};
+use crate::frame::QOA_MAX_CHANNELS;
 use lms::QoaLms;
 
 // The signed 16-bit number that has so many bits below it.
@@ -37,6 +40,24 @@ pub fn read_lms(bytes: &[u8], at: usize) -> QoaLms
     let history = four_of(word::read_u64(bytes, at));
     let weights = four_of(word::read_u64(bytes, at + 8));
     QoaLms { history, weights }
+}
+
+// The predictor states of so many channels, read from a place on and stored over the first of `states`.
+pub fn read_states(
+    bytes: &[u8],
+    at: usize,
+    channels: usize,
+    states: [QoaLms; QOA_MAX_CHANNELS],
+) -> [QoaLms; QOA_MAX_CHANNELS]
+    requires { ⌜ (channels ≤ maxChannels) × (at + 16 * channels ≤ length (now bytes)) ⌝ }
+    ensures { λ r. ⌜ r ≡ written (λ j. lmsAt (now (bytes .entry)) (at + 16 * j)) states 0 1 channels ⌝ }
+{
+    let mut all = states;
+    for j in 0..channels {
+        let lms = read_lms(bytes, at + 16 * j);
+        all[j] = lms;
+    }
+    all
 }
 
 // The low 16 bits of x.

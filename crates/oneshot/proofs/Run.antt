@@ -4,7 +4,7 @@ use mathlib.Core.List.{[], _∷_}
 use lib.IntN.{pos}
 use Rattle.encoder.specs.Calls.{wrote}
 use Rattle.encoder.specs.Encoder.{createRules, goodEncoder, newView}
-use Rattle.encoder.specs.Frame.{afterFrame, allShort, firstWide, frameBytes, laid}
+use Rattle.encoder.specs.Frame.{afterFrame, firstWide, frameBytes, laid}
 use Rattle.encoder.specs.Channel.{lmsBefore, slicePart, sliceWord}
 use Rattle.encoder.specs.Head.{headBytes}
 use Rattle.word.specs.Bytes.{byteOf, bytesOf}
@@ -20,7 +20,7 @@ use Rattle.search.specs.Search.{bestAfter, chosen, dearer, encodedSlice, firstC
 use Rattle.header.specs.Format.{frameLength, slicesOf, stateEnd}
 use Rattle.header.specs.Header.{headerWord}
 use Rattle.header.specs.Predictor.{fourWord}
-use Rattle.state.specs.States.{below, historyRule}
+use Rattle.state.specs.States.{allShort, below, historyRule}
 use Rattle.word.specs.Rules.{firstOf}
 use Rattle.oneshot.specs.OneShot.{before, bytesBefore, chunk, fileBytes, framesIn, needOf, shotRules, stopIn}
 use Rattle.oneshot.specs.Shots.{allRules, shotTold}

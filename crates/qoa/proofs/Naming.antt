@@ -13,9 +13,10 @@ use Rattle.word.proofs.Rules.{none-fires, quiet, quiet-parts}
 use Rattle.lms.specs.declared.QoaLms.{QoaLms}
 use Rattle.header.specs.Format.{maxChannels}
 use Rattle.header.specs.Predictor.{lmsOf}
+use Rattle.state.specs.States.{allShort}
 use Rattle.encoder.specs.Calls.{Told, ifSome, refuses, refuses-14, wrote}
 use Rattle.encoder.specs.Encoder.{View, createRules, newView}
-use Rattle.encoder.specs.Frame.{allShort, firstWide, orThen}
+use Rattle.encoder.specs.Frame.{firstWide, orThen}
 use Rattle.oneshot.specs.OneShot.{Stop, before, bytesBefore, fileNeed, framesOf, orStop, shotRules, stopAt, stopIn}
 use Rattle.oneshot.specs.Shots.{allRules, shotTold}
 use Rattle.oneshot.proofs.Ends.{shot-fits}
@@ -96,8 +97,8 @@ module _ (c rate total : ℕ) (samples : List ℤ) (room : ℕ) where
 -- two calls with one code told the same
 pub encode-all-apart : (c rate total : ℕ) (samples : List ℤ) (room : ℕ) (c′ rate′ total′ : ℕ) (samples′ : List ℤ) (room′ : ℕ)
     → codedEncode (shotTold (allRules c rate total samples room) (newView c rate total) samples)
-      ≡ codedEncode (shotTold (allRules c′ rate′ total′ samples′ room′) (newView c′ rate′ total′) samples′)
+    ≡ codedEncode (shotTold (allRules c′ rate′ total′ samples′ room′) (newView c′ rate′ total′) samples′)
     → shotTold (allRules c rate total samples room) (newView c rate total) samples
-      ≡ shotTold (allRules c′ rate′ total′ samples′ room′) (newView c′ rate′ total′) samples′
+    ≡ shotTold (allRules c′ rate′ total′ samples′ room′) (newView c′ rate′ total′) samples′
 encode-all-apart c rate total samples room c′ rate′ total′ samples′ room′ =
     coded-encode-one _ _ (told-named c rate total samples room) (told-named c′ rate′ total′ samples′ room′)

@@ -3,7 +3,7 @@ use Prim.Native.Nat.{ℕ, zero, suc, _+_, _-_, _*_}
 use mathlib.Core.Bool.{Bool, true, _&&_, _||_}
 use mathlib.Core.List.{List}
 use lib.Dec.{eqb, leb, ltb}
-use lib.IntN.{natAbs}
+use lib.IntN.{ℤ, natAbs}
 use lib.ListN.{length}
 use lib.Signed.{mag}
 use Rattle.lms.specs.Predictor.{at}
@@ -28,9 +28,13 @@ unfoldable pub below : ℕ → (ℕ → Bool) → Bool
 below zero p = true
 below (suc n) p = below n p && p n
 
+-- numbers in -32768..32767
+unfoldable pub allShort : List ℤ → Bool
+allShort xs = below (length xs) (λ i. ltb (mag (at xs i)) 32768)
+
 -- histories in 16 bits
 unfoldable pub historyRule : QoaLms → Bool
-historyRule lms = below (length (lms .history)) (λ i. ltb (mag (at (lms .history) i)) 32768)
+historyRule lms = allShort (lms .history)
 
 -- weights at most a bound in magnitude
 unfoldable pub weightRule : ℕ → QoaLms → Bool

@@ -12,7 +12,6 @@ pub mod rules;
 pub use facts::facts_given;
 pub use opening::frame_facts;
 pub use opening::open_decoder;
-pub use opening::read_states;
 pub use opening::zero_state;
 pub use rules::is_good;
 

@@ -27,24 +27,6 @@ use header::refusal::Checked;
 use header::refusal::Refusal;
 use lms::QoaLms;
 
-// The predictor states of so many channels, read from a place on and stored over the first of `states`.
-pub fn read_states(
-    bytes: &[u8],
-    at: usize,
-    channels: usize,
-    states: [QoaLms; QOA_MAX_CHANNELS],
-) -> [QoaLms; QOA_MAX_CHANNELS]
-    requires { ⌜ (channels ≤ maxChannels) × (at + 16 * channels ≤ length (now bytes)) ⌝ }
-    ensures { λ r. ⌜ r ≡ written (λ j. lmsAt (now (bytes .entry)) (at + 16 * j)) states 0 1 channels ⌝ }
-{
-    let mut all = states;
-    for j in 0..channels {
-        let lms = header::read_lms(bytes, at + 16 * j);
-        all[j] = lms;
-    }
-    all
-}
-
 // What is told of a frame by its header.
 pub fn frame_facts(h: FrameHeader) -> FrameFacts
     ensures { λ r. ⌜ r ≡ factsIn h ⌝ }
@@ -120,7 +102,7 @@ fn fixed_state(bytes: &[u8], total: u32, h: FrameHeader) -> QoaDecoder
     let states = zero.lms;
     let pending = zero.pending;
     let channels = h.channels as usize;
-    let lms = read_states(bytes, 2 * QOA_HEADER_SIZE, channels, states);
+    let lms = header::read_states(bytes, 2 * QOA_HEADER_SIZE, channels, states);
     QoaDecoder {
         mode: ProcessingMode::FixedSamples {
             samples: total,

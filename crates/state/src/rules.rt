@@ -6,7 +6,7 @@ ghost use lib.Dec.{leb, ltb};
 ghost use lib.Signed.{mag};
 ghost use Rattle.header.specs.Format.{maxChannels};
 ghost use Rattle.state.specs.View.{view};
-ghost use Rattle.state.specs.States.{modeRule, someChannels, historyRule, weightRule, weightBound, lmsRule, goodState};
+ghost use Rattle.state.specs.States.{modeRule, someChannels, allShort, weightRule, weightBound, lmsRule, goodState};
 use crate::FrameFacts;
 use crate::ProcessingMode;
 use crate::QoaDecoder;
@@ -16,7 +16,7 @@ use header::frame::QOA_SLICE_LEN;
 use lms::QoaLms;
 
 // The highest rate that 24 bits hold.
-const QOA_MOST_RATE: u32 = 16777215;
+pub const QOA_MOST_RATE: u32 = 16777215;
 
 // In fixed mode a total of at least 1, with the first frame's channels and rate in range.
 fn is_good_mode(mode: ProcessingMode) -> bool
@@ -83,13 +83,12 @@ fn is_short(x: i32) -> bool
     if x < -32768 { false } else { x <= 32767 }
 }
 
-// Histories in 16 bits.
-fn is_good_history(lms: QoaLms) -> bool
-    ensures { λ r. ⌜ r ≡ historyRule lms ⌝ }
+// Numbers of 16 bits.
+pub fn are_short(xs: [i32; 4]) -> bool
+    ensures { λ r. ⌜ r ≡ allShort xs ⌝ }
 {
-    let history = lms.history;
     for i in 0..QOA_LMS_LEN {
-        if !is_short(history[i]) {
+        if !is_short(xs[i]) {
             return false;
         }
     }
@@ -124,7 +123,8 @@ fn are_good_states(states: [QoaLms; QOA_MAX_CHANNELS], channels: usize, bound: u
 {
     for j in 0..channels {
         let lms = states[j];
-        if !is_good_history(lms) {
+        let history = lms.history;
+        if !are_short(history) {
             return false;
         }
         if !are_good_weights(lms, bound) {

@@ -4,32 +4,17 @@ ghost use mathlib.Core.List.{_++_};
 ghost use Prim.Native.Nat.{_+_, _*_, _≤_};
 ghost use lib.ListN.{length, take, drop};
 ghost use Rattle.scale.specs.Tables.{dequantTab};
-ghost use Rattle.header.specs.Format.{maxChannels, stateEnd};
+ghost use Rattle.header.specs.Format.{maxChannels};
 ghost use Rattle.header.specs.Header.{headerAt};
 ghost use Rattle.header.specs.Part.{lengthOf};
 ghost use Rattle.format.specs.Frame.{frameSamples};
 ghost use Rattle.format.specs.Walk.{frameAt};
-ghost use Rattle.format.proofs.Places.{StatesAt};
 ghost use Rattle.whole.specs.Told.{kept};
 ghost use Rattle.whole.specs.Held.{HasRoom, held};
 use crate::survey::sample_count;
 use header::frame::FrameHeader;
 use header::frame::QOA_HEADER_SIZE;
 use header::frame::QOA_MAX_CHANNELS;
-use lms::QoaLms;
-
-// The predictor states of the frame at a place.
-fn read_states(bytes: &[u8], at: usize, channels: usize) -> [QoaLms; QOA_MAX_CHANNELS]
-    requires { ⌜ (channels ≤ maxChannels) × (at + stateEnd channels ≤ length (now bytes)) ⌝ }
-    ensures { λ r. ⌜ StatesAt (now (bytes .entry)) at channels r ⌝ }
-{
-    let mut states = [lms::new_lms(); QOA_MAX_CHANNELS];
-    for j in 0..channels {
-        let state = header::read_lms(bytes, at + (QOA_HEADER_SIZE + 16 * j));
-        states[j] = state;
-    }
-    states
-}
 
 // The frame at a place, its samples stored from `start` on.
 fn decode_frame(
@@ -47,7 +32,8 @@ fn decode_frame(
 {
     let channels = h.channels as usize;
     let samples = h.samples as usize;
-    let states = read_states(bytes, at, channels);
+    let unread = [lms::new_lms(); QOA_MAX_CHANNELS];
+    let states = header::read_states(bytes, at + QOA_HEADER_SIZE, channels, unread);
     let place = at + header::state_end(channels);
     slice::decode_groups(tab, states, bytes, place, channels, samples, out, start);
 }

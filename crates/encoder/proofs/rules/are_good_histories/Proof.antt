@@ -11,7 +11,6 @@ use Rattle.lms.specs.declared.QoaLms.{QoaLms}
 use Rattle.header.specs.Predictor.{lmsOf}
 use Rattle.state.specs.States.{below, historyRule}
 use Rattle.state.proofs.Belows.{below-false, below-more}
-use Rattle.encoder.specs.Frame.{allShort}
 use Rattle.encoder.proofs.rules.are_good_histories.Statement.{statement}
 use Rattle.encoder.proofs.rules.are_good_histories.Tie as tie
 
@@ -39,7 +38,7 @@ are-short-requires : tie.Need-are-short-requires Inv-loop μ-loop
 are-short-requires c κs = search needs
 
 returns : tie.Need-returns Inv-loop μ-loop
-unfolding historyRule allShort
+unfolding historyRule
 returns c =
     let l = c .before .before .before .before .before in
     sym (below-false (rule (l .before .args .t1)) (l .before .args .channels) (l .loop .j) (omega arith) (sym (c .before .are-short .ensures) ∙ not-true _ (c .if1 .taken)))
@@ -51,7 +50,7 @@ loop-less : tie.Need-loop-less Inv-loop μ-loop
 loop-less c = omega arith
 
 loop-again : tie.Need-loop-again Inv-loop μ-loop
-unfolding historyRule allShort
+unfolding historyRule
 loop-again c =
     let l = c .before .before .before .before .before in
     (omega arith, rw add-one (below-more (rule (l .before .args .t1)) (l .loop .j) (l .loop .inv .1) (sym (c .before .are-short .ensures) ∙ not-false _ (c .if1 .left))))

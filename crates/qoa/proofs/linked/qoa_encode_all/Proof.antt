@@ -46,9 +46,9 @@ wide-requires c κs = small (c .before .before .before .before .before) _ (c .be
 -- and its code is the contract's
 as-told : (c : tie.After-encode-all) (a : EncodeAnswer) → c .encode-all .result ≡ a
     → codedEncode (toldEncode a)
-      ≡ let args = c .before .before .before .args in
-        let rules = allRules (args .channels) (args .rate) (args .total) (now (args .samples)) (length (now (args .out))) in
-        codedEncode (shotTold rules (newView (args .channels) (args .rate) (args .total)) (now (args .samples)))
+    ≡ let args = c .before .before .before .args in
+    let rules = allRules (args .channels) (args .rate) (args .total) (now (args .samples)) (length (now (args .out))) in
+    codedEncode (shotTold rules (newView (args .channels) (args .rate) (args .total)) (now (args .samples)))
 as-told c a e = ap (λ (x : EncodeAnswer). codedEncode (toldEncode x)) (sym e) ∙ ap codedEncode (c .encode-all .ensures .told)
 
 same-length : tie.Need-same-length

@@ -6,7 +6,7 @@ use mathlib.Core.Bool.{true}
 use Prim.Native.Nat.{_-_, _≤_}
 use native.Mathlib.Numerals.{add-one}
 use native.Mathlib.Omega.{arith}
-use Rattle.state.specs.States.{below, lmsRule}
+use Rattle.state.specs.States.{below, historyRule, lmsRule}
 use Rattle.state.proofs.Belows.{and-both, below-false, below-more}
 use Rattle.state.proofs.GoodStates.{channelRule}
 use Rattle.state.proofs.rules.are_good_states.Statement.{statement}
@@ -28,27 +28,27 @@ mul-lms c = omega arith
 array-copy-out-lms : tie.Need-array-copy-out-lms Inv-loop μ-loop
 array-copy-out-lms c = omega arith
 
-is-good-history-requires : tie.Need-is-good-history-requires Inv-loop μ-loop
-is-good-history-requires c κs = search needs
+are-short-requires : tie.Need-are-short-requires Inv-loop μ-loop
+are-short-requires c κs = search needs
 
 returns : tie.Need-returns Inv-loop μ-loop
-unfolding lmsRule
+unfolding lmsRule historyRule
 returns c =
-    let s = c .before .before .before .before .before in
-    let j = c .before .before .before .before .loop .j in
-    sym (below-false (channelRule (s .args .bound) (s .args .t1)) (s .args .channels) j (omega arith) (simp (sym (c .before .is-good-history .ensures) ∙ not-true _ (c .if1 .taken))))
+    let s = c .before .before .before .before .before .before in
+    let j = c .before .before .before .before .before .loop .j in
+    sym (below-false (channelRule (s .args .bound) (s .args .t1)) (s .args .channels) j (omega arith) (simp (sym (c .before .are-short .ensures) ∙ not-true _ (c .if1 .taken))))
 
 are-good-weights-requires : tie.Need-are-good-weights-requires Inv-loop μ-loop
 are-good-weights-requires c κs = search needs
 
 returns-2 : tie.Need-returns-2 Inv-loop μ-loop
-unfolding lmsRule
+unfolding lmsRule historyRule
 returns-2 c =
     let first = c .before .before in
-    let s = first .before .before .before .before .before in
-    let j = first .before .before .before .before .loop .j in
+    let s = first .before .before .before .before .before .before in
+    let j = first .before .before .before .before .before .loop .j in
     sym (below-false (channelRule (s .args .bound) (s .args .t1)) (s .args .channels) j (omega arith)
-    (simp (sym (first .before .is-good-history .ensures) ∙ not-false _ (first .if1 .left), sym (c .before .are-good-weights .ensures) ∙ not-true _ (c .if2 .taken))))
+    (simp (sym (first .before .are-short .ensures) ∙ not-false _ (first .if1 .left), sym (c .before .are-good-weights .ensures) ∙ not-true _ (c .if2 .taken))))
 
 add-j : tie.Need-add-j Inv-loop μ-loop
 add-j c = omega arith
@@ -57,11 +57,12 @@ loop-less : tie.Need-loop-less Inv-loop μ-loop
 loop-less c = omega arith
 
 loop-again : tie.Need-loop-again Inv-loop μ-loop
+unfolding historyRule
 loop-again c =
     let first = c .before .before in
-    let s = first .before .before .before .before .before in
-    let l = first .before .before .before .before .loop in
-    let history = sym (first .before .is-good-history .ensures) ∙ not-false _ (first .if1 .left) in
+    let s = first .before .before .before .before .before .before in
+    let l = first .before .before .before .before .before .loop in
+    let history = sym (first .before .are-short .ensures) ∙ not-false _ (first .if1 .left) in
     let weights = sym (c .before .are-good-weights .ensures) ∙ not-false _ (c .if2 .left) in
     (omega arith, rw add-one (below-more (channelRule (s .args .bound) (s .args .t1)) (l .j) (l .inv .1) (and-both _ _ history weights)))
 
@@ -81,7 +82,7 @@ are-good-states-spec =
     loop-holds
     mul-lms
     array-copy-out-lms
-    is-good-history-requires
+    are-short-requires
     returns
     are-good-weights-requires
     returns-2

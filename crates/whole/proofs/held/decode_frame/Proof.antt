@@ -2,19 +2,20 @@
 use borrow.Author.Needs.{needs}
 use mathlib.Core.List.{List, _++_}
 use Prim.Native.Nat.{ℕ, _+_, _*_}
-use mathlib.Core.Path.{_≡_, sym, ap, _∙_}
+use mathlib.Core.Path.{_≡_, sym, ap, subst, _∙_}
 use native.Mathlib.Omega.{arith}
 use denote.Ref.{now}
 use lib.Dec.{lit≤}
 use lib.IntN.{ℤ}
 use lib.ListN.{take, drop, length-drop}
+use Rattle.lms.specs.declared.QoaLms.{QoaLms}
 use Rattle.lms.proofs.Bounds.{within-more}
 use Rattle.word.specs.Written.{written}
 use Rattle.word.proofs.Writes.{written-list}
 use Rattle.header.specs.Format.{frameLength, stateEnd}
 use Rattle.header.proofs.Headers.{frame-long}
 use Rattle.slice.specs.Groups.{groupsAt}
-use Rattle.format.proofs.Places.{frame-here, states-within}
+use Rattle.format.proofs.Places.{StatesAt, frame-here, states-read, states-within}
 use Rattle.whole.proofs.held.decode_frame.Statement.{statement}
 use Rattle.whole.proofs.held.decode_frame.Tie as tie
 
@@ -24,25 +25,40 @@ cast-channels c = search needs
 cast-samples : tie.Need-cast-samples
 cast-samples c = search needs
 
+new-lms-requires : tie.Need-new-lms-requires
+new-lms-requires c κs = search needs
+
+add-read-states : tie.Need-add-read-states
+add-read-states c = search needs
+
 read-states-requires : tie.Need-read-states-requires
+unfolding stateEnd
 read-states-requires c κs =
-    let h = c .before .before .before .args .h in
-    omega (arith, frame-long (h .channels) (h .samples))
+    let h = c .before .before .before .before .args .h in
+    (omega arith, omega (arith, frame-long (h .channels) (h .samples)))
+
+-- the states are those that stand there
+there : (c : tie.After-read-states)
+    → let args = c .before .before .before .before .before .args in StatesAt (now (args .bytes)) (args .at) (args .h .channels) (c .read-states .result)
+there c =
+    let args = c .before .before .before .before .before .args in
+    subst (λ (states : List QoaLms). StatesAt (now (args .bytes)) (args .at) (args .h .channels) states) (sym (c .read-states .ensures))
+    (states-read (now (args .bytes)) (args .at) (args .h .channels) _ (omega arith))
 
 state-end-requires : tie.Need-state-end-requires
 state-end-requires c κs = search needs
 
 add-place : tie.Need-add-place
 add-place c =
-    let h = c .before .before .before .before .before .args .h in
+    let h = c .before .before .before .before .before .before .args .h in
     omega (arith, frame-long (h .channels) (h .samples))
 
 decode-groups-requires : tie.Need-decode-groups-requires
 unfolding frameLength
 decode-groups-requires c κs =
-    let start = c .before .before .before .before .before .before in
+    let start = c .before .before .before .before .before .before .before in
     let h = start .args .h in
-    let known = c .before .before .before .before .before .shared-slice-known in (
+    let known = c .before .before .before .before .before .before .shared-slice-known in (
       start .pre .0,
       (
         omega arith,
@@ -50,7 +66,7 @@ decode-groups-requires c κs =
           omega arith,
           (
             start .pre .1 .1,
-            λ j l. within-more (lit≤ tt) (states-within _ _ (h .channels) (c .before .before .read-states .result) (λ i. known .given i .fits) (c .before .before .read-states .ensures) j l),
+            λ j l. within-more (lit≤ tt) (states-within _ _ (h .channels) (c .before .before .read-states .result) (λ i. known .given i .fits) (there (c .before .before)) j l),
           ),
         ),
       ),
@@ -61,14 +77,14 @@ same-length c = search needs
 
 returns : tie.Need-returns
 returns c =
-    let start = c .before .before .before .before .before .before .before .before in
+    let start = c .before .before .before .before .before .before .before .before .before in
     let h = start .args .h in
     let b = now (start .args .bytes) in
     let out = now (start .args .out) in
     let n = start .args .start + h .samples * h .channels in
     let samples = groupsAt b (start .args .at + stateEnd (h .channels)) (h .channels) (c .before .before .before .before .read-states .result) in
     let place : start .args .at + c .before .before .before .state-end .result ≡ start .args .at + stateEnd (h .channels) = ap (λ (k : ℕ). start .args .at + k) (c .before .before .before .state-end .ensures) in
-    let heard = frame-here b (start .args .at) h (c .before .before .before .before .read-states .result) (c .before .before .before .before .read-states .ensures) (sym (start .pre .1 .0 .0)) (omega (arith, length-drop (start .args .at) b, start .pre .1)) in
+    let heard = frame-here b (start .args .at) h (c .before .before .before .before .read-states .result) (there (c .before .before .before .before)) (sym (start .pre .1 .0 .0)) (omega (arith, length-drop (start .args .at) b, start .pre .1)) in
     c .before .decode-groups .ensures .1
     ∙ ap (λ (p : ℕ). written (groupsAt b p (h .channels) (c .before .before .before .before .read-states .result)) out (start .args .start) 1 (h .samples * h .channels)) place
     ∙ written-list samples out (start .args .start) (h .samples * h .channels) (start .pre .1 .1)
@@ -80,6 +96,8 @@ decode-frame-spec =
     (tie.spec
     cast-channels
     cast-samples
+    new-lms-requires
+    add-read-states
     read-states-requires
     state-end-requires
     add-place

@@ -1,4 +1,4 @@
--- `encoder::rules::are_short` meets its contract. The invariant: each number passed is of 16 bits. Assumes nothing.
+-- `state::rules::are_short` meets its contract. The invariant: each number passed is of 16 bits. Assumes nothing.
 use borrow.Author.Needs.{needs}
 use borrow.Author.Tests.{not-false, not-true}
 use mathlib.Core.Path.{_≡_, refl, sym, ap, _∙_}
@@ -15,11 +15,10 @@ use mir.Syntax.{w32}
 use mir.Facts.{toZ-ofZ}
 use Rattle.wrap.proofs.Integers.{fits-of}
 use Rattle.lms.specs.Predictor.{at}
-use Rattle.state.specs.States.{below}
+use Rattle.state.specs.States.{allShort, below}
 use Rattle.state.proofs.Belows.{below-false, below-more}
-use Rattle.encoder.specs.Frame.{allShort}
-use Rattle.encoder.proofs.rules.are_short.Statement.{statement}
-use Rattle.encoder.proofs.rules.are_short.Tie as tie
+use Rattle.state.proofs.rules.are_short.Statement.{statement}
+use Rattle.state.proofs.rules.are_short.Tie as tie
 
 -- of the number at a place
 abbrev short : List ℤ → ℕ → Bool
