@@ -1,9 +1,12 @@
--- Bytes as text: two lower-case hex digits each, the upper four bits first. Assumes nothing.
+-- Bytes and samples as text: two lower-case hex digits to a byte, the upper four bits first. Assumes nothing.
 use Prim.Native.Nat.{ℕ, _+_, _-_, _*_, _/_, _%_}
 use mathlib.Core.Bool.{Bool, _&&_, cond}
 use mathlib.Core.List.{List}
 use lib.Dec.{leb, ltb, eqb}
+use lib.IntN.{ℤ}
 use lib.ListN.{length, getD}
+use mir.Syntax.{w16}
+use mir.Val.{toZ}
 use Rattle.io.specs.Digits.{glyph}
 use Rattle.text.specs.All.{allBelow}
 
@@ -14,6 +17,10 @@ hexValue b = cond (ltb b 48) 16 (cond (leb b 57) (b - 48) (cond (ltb b 97) 16 (c
 -- the byte that two digits say, from a place of a text on
 unfoldable pub pairAt : List ℕ → ℕ → ℕ
 pairAt text p = hexValue (getD text p 0) % 16 * 16 + hexValue (getD text (p + 1) 0) % 16
+
+-- the sample that four digits say, the lower byte first
+unfoldable pub sampleAt : List ℕ → ℕ → ℤ
+sampleAt text p = toZ w16 (pairAt text (p + 2) * 256 + pairAt text p)
 
 -- the upper four bits of a byte for an even number, the lower four for an odd one
 abbrev pub half : ℕ → ℕ → ℕ

@@ -5,7 +5,7 @@ ghost use lib.ListN.{length, set};
 ghost use Rattle.io.specs.Digits.{glyph};
 ghost use Rattle.pcm.specs.Pcm.{leBytes};
 ghost use Rattle.word.specs.Written.{written};
-ghost use Rattle.text.specs.Hex.{digitOf, isHex, pairAt};
+ghost use Rattle.text.specs.Hex.{digitOf, isHex, pairAt, sampleAt};
 ghost use Rattle.text.specs.Output.{appended, grown};
 use crate::digit::hex_digit;
 use crate::digit::hex_value;
@@ -43,6 +43,27 @@ pub fn read_hex(text: &[u8], out: &mut [u8])
 {
     for i in 0..out.len() {
         out[i] = pair(text, i * 2);
+    }
+}
+
+// The sample that four digits say, the lower byte first.
+fn sample(text: &[u8], at: usize) -> i16
+    requires { ⌜ at + 3 < length (now text) ⌝ }
+    ensures { λ r. ⌜ r ≡ sampleAt (now (text .entry)) at ⌝ }
+{
+    let low = pair(text, at);
+    let high = pair(text, at + 2);
+    wrap::signed16((high as u16) * 256 + (low as u16))
+}
+
+// The samples that a text says, as many as there are places.
+pub fn read_samples(text: &[u8], out: &mut [i16])
+    requires { ⌜ length (now out) * 4 ≤ length (now text) ⌝ }
+    ensures { λ _. ⌜ now (out .exit) ≡ written (λ i. sampleAt (now (text .entry)) (i * 4)) (now (out .entry)) 0 1 (length (now (out .entry))) ⌝ }
+{
+    for i in 0..out.len() {
+        let x = sample(text, i * 4);
+        out[i] = x;
     }
 }
 

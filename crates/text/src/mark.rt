@@ -1,4 +1,4 @@
-// Marked samples, by which a store can be seen.
+// Marked samples and bytes, by which a store can be seen.
 ghost use mathlib.Core.Path.{_≡_};
 ghost use mathlib.Core.Bool.{true};
 ghost use lib.IntN.{pos};
@@ -20,7 +20,7 @@ pub fn mark(samples: &mut [i16])
 
 // Whether every sample from a place on is as it was marked.
 pub fn is_kept(samples: &[i16], from: usize) -> bool
-    ensures { λ r. ⌜ (r ≡ true → Kept (now (samples .entry)) from) × (Kept (now (samples .entry)) from → r ≡ true) ⌝ }
+    ensures { λ r. ⌜ (r ≡ true → Kept (pos 0) (pos 0x5a5a) (now (samples .entry)) from) × (Kept (pos 0) (pos 0x5a5a) (now (samples .entry)) from → r ≡ true) ⌝ }
 {
     if samples.len() < from {
         return false;
@@ -28,6 +28,24 @@ pub fn is_kept(samples: &[i16], from: usize) -> bool
     for i in from..samples.len() {
         let sample = samples[i];
         if sample != MARK {
+            return false;
+        }
+    }
+    true
+}
+
+// What every byte is before a call.
+pub const BYTE_MARK: u8 = 0x5a;
+
+// Whether every byte from a place on is as it was marked.
+pub fn are_kept(bytes: &[u8], from: usize) -> bool
+    ensures { λ r. ⌜ (r ≡ true → Kept 0 0x5a (now (bytes .entry)) from) × (Kept 0 0x5a (now (bytes .entry)) from → r ≡ true) ⌝ }
+{
+    if bytes.len() < from {
+        return false;
+    }
+    for i in from..bytes.len() {
+        if bytes[i] != BYTE_MARK {
             return false;
         }
     }
