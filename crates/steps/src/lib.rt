@@ -2,6 +2,3 @@
 pub mod op;
 pub mod run;
 pub mod step;
-
-// The samples that fit.
-pub const SAMPLES: usize = 16000;

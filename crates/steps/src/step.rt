@@ -1,7 +1,7 @@
 // One call on a decoder.
-use crate::SAMPLES;
 use crate::op::Op;
 use crate::op::op_of;
+use given::SAMPLES;
 use reply::calls;
 use reply::samples;
 use reply::words;

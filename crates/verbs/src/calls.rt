@@ -1,7 +1,6 @@
 // facts, calls, from: a decoder's state, and the calls on it one after another.
-use crate::given;
-use crate::given::BYTES;
-use crate::given::Given;
+use given::BYTES;
+use given::Given;
 use reply::words;
 
 // facts is the one op `s`, with no first answer.

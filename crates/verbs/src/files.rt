@@ -1,11 +1,10 @@
 // decode, frames, part: calls on bytes alone.
-use crate::given;
-use crate::given::BYTES;
-use crate::given::Both;
+use given::BYTES;
+use given::Both;
+use given::SAMPLES;
 use header::PartAnswer;
 use reply::samples;
 use reply::words;
-use steps::SAMPLES;
 
 // decode, or frames where it is streaming.
 pub fn decode(line: &[u8], streaming: bool, out: &mut [u8], put: usize) -> usize {
@@ -13,7 +12,7 @@ pub fn decode(line: &[u8], streaming: bool, out: &mut [u8], put: usize) -> usize
     match given::both_of(line, SAMPLES, &mut bytes) {
         Both::What => words::what(out, put),
         Both::NoRoom => words::no_room(out, put),
-        Both::Counts { first, bytes: n } => decode_first(&bytes, n, first, streaming, out, put),
+        Both::Counts { first, second: n } => decode_first(&bytes, n, first, streaming, out, put),
     }
 }
 
@@ -56,7 +55,7 @@ pub fn part(line: &[u8], out: &mut [u8], put: usize) -> usize {
     match given::both_of(line, usize::MAX, &mut bytes) {
         Both::What => words::what(out, put),
         Both::NoRoom => words::no_room(out, put),
-        Both::Counts { first, bytes: n } => part_first(&bytes, n, first, out, put),
+        Both::Counts { first, second: n } => part_first(&bytes, n, first, out, put),
     }
 }
 
