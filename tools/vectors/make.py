@@ -1,21 +1,19 @@
 #!/usr/bin/env python3
 """Makes crates/ask/stdin and crates/ask/stdout: requests for the program `ask`, and the answers that it must give.
 
-From vectors.txt, the source's recorded answers (`oracle vectors`), each turned into 01's numbers and words, and from states.txt,
-cases written by hand. A case that docs/DIFFERENCES.md lists is marked by a comment with its number there. Run it from the root:
+From vectors.txt, the source's recorded answers (`oracle vectors`), each turned into 01's numbers and words, and from states.txt and
+encoder.txt, cases written by hand. A case that docs/DIFFERENCES.md lists is marked by a comment with its number there. Run it from the root:
 
     python3 tools/vectors/make.py            writes both files, and prints how many cases there are
     python3 tools/vectors/make.py --check    compares them with what it would write
 """
 import fnmatch
+import re
 import sys
 
 HERE = "tools/vectors/"
 STDIN = "crates/ask/stdin"
 STDOUT = "crates/ask/stdout"
-
-# the verbs of `ask` that come with the encoder: their cases are counted and left out
-LATER = {"encode", "pieces"}
 
 REFUSALS = {
     "NotQoaFile": 1,
@@ -34,11 +32,13 @@ DIFFERENCES = [
     ("decode", "nine-second-*", 2, 6),
     ("frames", "*-tail-1", 8, 5),
     ("frames", "*-tail-7", 8, 5),
+    ("encode", "creation 1 16777216 1", 6, 12),
+    ("encode", "creation 8 16777216 1", 6, 12),
 ]
 
 # room beyond the need, so that a store past the count would be seen
 SPARE = 7
-# one accepted decode in so many is asked with the exact room too, and with one sample less
+# one accepted decode or encode in so many is asked with the exact room too, and with one sample or byte less
 SOME = 8
 
 
@@ -48,6 +48,18 @@ def refused(number):
 
 def samples_in(hexes):
     return 0 if hexes == "-" else len(hexes) // 4
+
+
+def bytes_in(hexes):
+    return 0 if hexes == "-" else len(hexes) // 2
+
+
+def written_out(word):
+    """`00*16` is the byte 00 sixteen times, and `+` puts parts together; any other word stays as it is."""
+    if re.fullmatch(r"[0-9a-f]+(\*[0-9]+)?(\+[0-9a-f]+(\*[0-9]+)?)*", word) is None:
+        return word
+    parts = [part.split("*") for part in word.split("+")]
+    return "".join(part[0] * int(part[1]) if len(part) == 2 else part[0] for part in parts)
 
 
 def difference(verb, name):
@@ -62,7 +74,6 @@ class Cases:
         self.requests = []
         self.answers = []
         self.count = 0
-        self.skipped = 0
         self.differing = 0
         self.accepted = 0
 
@@ -95,9 +106,10 @@ class Cases:
         elif words[0] in REFUSALS:
             self.case("decode 100 " + data, refused(REFUSALS[words[0]]))
         else:
-            self.decoded("decode", data, " ".join(words), samples_in(words[3]))
+            self.roomy("decode", data, " ".join(words), samples_in(words[3]))
 
-    def decoded(self, verb, data, answer, need):
+    def roomy(self, verb, data, answer, need):
+        """An accepted call with more room than it needs, and at times with the exact room and less."""
         self.case("%s %d %s" % (verb, need + SPARE, data), answer)
         self.accepted += 1
         if self.accepted % SOME == 0:
@@ -113,7 +125,24 @@ class Cases:
         elif words[0] in REFUSALS:
             self.case("frames 100 " + data, refused(REFUSALS[words[0]]))
         else:
-            self.decoded("frames", data, " ".join(words), samples_in(words[1]))
+            self.roomy("frames", data, " ".join(words), samples_in(words[1]))
+
+    def encode(self, name, data, words):
+        numbers, samples = data[:3], data[3]
+        answer = self.listed("encode", " ".join([name] + numbers), words)
+        verb = " ".join(["encode"] + numbers)
+        if answer is not None:
+            self.case("%s 100 %s" % (verb, samples), answer)
+        elif words[0] in REFUSALS:
+            self.case("%s 100 %s" % (verb, samples), refused(REFUSALS[words[0]]))
+        else:
+            self.roomy(verb, samples, " ".join(words), bytes_in(words[1]))
+
+    def pieces(self, name, data, words):
+        """The source answers with the samples per channel before a frame's bytes (difference 15)."""
+        self.remark("# pieces %s" % name)
+        answers = [refused(REFUSALS[word]) if word in REFUSALS else "ok " + word.split(":")[1] for word in words[1:]]
+        self.case(" ".join(["pieces"] + data[:3] + data[3].split("/")), " ; ".join(["ok", "ok " + words[0]] + answers))
 
     def items(self, name, data, words):
         self.calls(name, data, ",".join("i" for _ in words), words, verb="items")
@@ -140,20 +169,20 @@ class Cases:
 
     def recorded(self, line):
         said, answer = line.split(" =", 1)
-        verb, name, data, *rest = said.split(" ")
-        if verb in LATER:
-            self.skipped += 1
-        elif verb == "calls":
-            self.calls(name, data, rest[0], answer.split())
-        else:
+        verb, name, *data = said.split(" ")
+        if verb == "calls":
+            self.calls(name, data[0], data[1], answer.split())
+        elif verb in ("encode", "pieces"):
             getattr(self, verb)(name, data, answer.split())
+        else:
+            getattr(self, verb)(name, data[0], answer.split())
 
     def written(self, text):
         """Cases by hand: a request, then its answer after `= `. Empty lines and comments stand in both files."""
         request = None
         for line in text.splitlines():
             if line.startswith("= "):
-                self.case(request, line[2:])
+                self.case(" ".join(written_out(word) for word in request.split(" ")), line[2:])
                 request = None
                 continue
             if request is not None:
@@ -170,8 +199,9 @@ def main():
         for line in file:
             cases.recorded(line.rstrip("\n"))
     recorded = cases.count
-    with open(HERE + "states.txt") as file:
-        cases.written(file.read())
+    for name in ("states.txt", "encoder.txt"):
+        with open(HERE + name) as file:
+            cases.written(file.read())
     made = {STDIN: "\n".join(cases.requests) + "\n", STDOUT: "\n".join(cases.answers) + "\n"}
     for path, text in made.items():
         if sys.argv[1:] == ["--check"]:
@@ -181,8 +211,8 @@ def main():
         else:
             with open(path, "w") as file:
                 file.write(text)
-    print("%d requests: %d from the source's list, %d listed differences, %d by hand; %d lines of the list left out (%s)" % (
-        cases.count, recorded, cases.differing, cases.count - recorded, cases.skipped, ", ".join(sorted(LATER))))
+    print("%d requests: %d from the source's list, %d listed differences, %d by hand" % (
+        cases.count, recorded, cases.differing, cases.count - recorded))
 
 
 main()

@@ -3,6 +3,7 @@ use reply::words;
 use verbs::calls;
 use verbs::files;
 use verbs::numbers;
+use writing::pieces;
 
 enum Verb {
     Decode,
@@ -12,6 +13,10 @@ enum Verb {
     Calls,
     From,
     Div,
+    Encode,
+    Pieces,
+    Frame,
+    Oneshot,
     Other,
 }
 
@@ -36,6 +41,22 @@ fn verb_of(word: &[u8]) -> Verb {
     }
     if text::field::same(word, b"div") {
         return Verb::Div;
+    }
+    encoder_verb(word)
+}
+
+fn encoder_verb(word: &[u8]) -> Verb {
+    if text::field::same(word, b"encode") {
+        return Verb::Encode;
+    }
+    if text::field::same(word, b"pieces") {
+        return Verb::Pieces;
+    }
+    if text::field::same(word, b"frame") {
+        return Verb::Frame;
+    }
+    if text::field::same(word, b"oneshot") {
+        return Verb::Oneshot;
     }
     Verb::Other
 }
@@ -71,6 +92,10 @@ pub fn respond(line: &[u8], out: &mut [u8], put: usize) -> usize {
         Verb::Calls => calls::calls(line, out, put),
         Verb::From => calls::from(line, out, put),
         Verb::Div => numbers::div(line, out, put),
+        Verb::Encode => writing::calls::encode(line, out, put),
+        Verb::Pieces => pieces::pieces(line, out, put),
+        Verb::Frame => writing::calls::frame(line, false, out, put),
+        Verb::Oneshot => writing::calls::frame(line, true, out, put),
         Verb::Other => words::what(out, put),
     }
 }

@@ -12,7 +12,7 @@ use state::QoaDecoder;
 const HEAD: usize = 12;
 
 // The numbers of the predictors.
-const NUMBERS: usize = 2 * QOA_LMS_LEN * QOA_MAX_CHANNELS;
+pub const NUMBERS: usize = 2 * QOA_LMS_LEN * QOA_MAX_CHANNELS;
 
 // A state that was read, where the text is one.
 pub struct Stated {
@@ -109,7 +109,7 @@ fn four_at(values: &[u64], i: usize) -> [i32; 4] {
     ]
 }
 
-fn predictors_of(values: &[u64]) -> [QoaLms; QOA_MAX_CHANNELS] {
+pub fn predictors_of(values: &[u64]) -> [QoaLms; QOA_MAX_CHANNELS] {
     let none = QoaLms {
         history: [0; 4],
         weights: [0; 4],
@@ -147,7 +147,7 @@ fn state_of(head: &[u64; HEAD], values: &[u64], pending: &[u64; PENDING]) -> Qoa
 }
 
 // The part of a text between two places.
-fn between(text: &[u8], from: usize, to: usize) -> &[u8] {
+pub fn between(text: &[u8], from: usize, to: usize) -> &[u8] {
     if text.len() < to {
         return &text[0..0];
     }
@@ -198,7 +198,7 @@ fn read_parts(text: &[u8], head: &mut [u64], values: &mut [u64], pending: &mut [
 }
 
 // A number after a comma.
-fn put_number(out: &mut [u8], put: usize, n: u64) -> usize {
+pub fn put_number(out: &mut [u8], put: usize, n: u64) -> usize {
     let at = text::put::put_text(out, put, b",");
     text::put::put_number(out, at, n)
 }
@@ -267,7 +267,7 @@ fn least(a: usize, b: usize) -> usize
 }
 
 // The predictors of the used channels.
-fn put_predictors(
+pub fn put_predictors(
     states: [QoaLms; QOA_MAX_CHANNELS],
     channels: usize,
     out: &mut [u8],
