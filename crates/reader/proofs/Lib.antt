@@ -1,0 +1,2 @@
+-- Laws for the crates above.
+pub mod Handing
