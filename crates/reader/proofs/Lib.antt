@@ -1,2 +1,3 @@
 -- Laws for the crates above.
 pub mod Handing
+pub mod Settled

@@ -8,6 +8,7 @@ use decoder::DecodedInto;
 use decoder::NextFrame;
 use decoder::NextItem;
 use header::part::PartAnswer;
+pub use places::DecodedAt;
 use places::decode_at;
 use places::next_frame_at;
 use places::next_item_at;
@@ -127,5 +128,16 @@ pub fn next_item<'a>(r: Reader<'a>, d: QoaDecoder) -> ReadItem<'a>
             at: given.at,
         },
         done: given.done,
+    }
+}
+
+// The same from plain bytes and a place: whoever calls this one needs no reader.
+pub fn decode_from<'a>(src: &'a [u8], at: usize, d: QoaDecoder, out: &mut [i16]) -> DecodedAt
+    ensures { λ r. ⌜ IntoRead (now (src .entry)) at d (now (out .entry)) (r .at) (r .done) (now (out .exit)) ⌝ }
+{
+    let read = decode_into(Reader { src, at }, d, out);
+    DecodedAt {
+        at: read.reader.at,
+        done: read.done,
     }
 }
