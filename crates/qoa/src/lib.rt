@@ -68,3 +68,20 @@ pub use oneshot::encode_need;
 // Why a call refuses, and the refusal's number.
 pub use header::Refusal;
 pub use header::number;
+
+// The reader: the caller's bytes and a place in them, and the calls above over both.
+pub use reader::DecodedAt;
+pub use reader::FramePart;
+pub use reader::OpenedReader;
+pub use reader::ReadFrame;
+pub use reader::ReadInto;
+pub use reader::ReadItem;
+pub use reader::Reader;
+pub use reader::decode_from;
+pub use reader::decode_into as read_into;
+pub use reader::frame_part as read_part;
+pub use reader::moved as moved_reader;
+pub use reader::new as new_reader;
+pub use reader::next_frame as read_frame;
+pub use reader::next_item as read_item;
+pub use reader::open as open_reader;
