@@ -41,6 +41,11 @@ module _ {A : Type 0} (at : ℕ) (d : QoaDecoder) (v : View) (x : A) where
   gone none y c e l = (ap (λ (w : View). w .at) l, l)
   gone (some m) y c e l = never y m e
 
+-- reader and state of an accepted call, taken together, mean just what the call defines: so the laws of the decoder's calls (`into-after-good` and its like) hold of them
+pub handed-again : (at : ℕ) (d : QoaDecoder) (v : View) (at' : ℕ) (after : QoaDecoder) → Handed none at d v at' after → there at' after ≡ v
+unfolding view placed
+handed-again at d v at' after h = ap (λ (n : ℕ). there n after) (h .0 ∙ sym (ap (λ (w : View). w .at) (h .1))) ∙ h .1
+
 -- ---- decode_into
 
 module _ (bs : List ℕ) (at : ℕ) (d : QoaDecoder) (out : List ℤ) (c : DecodedInto) (out' : List ℤ) (x : IntoDone bs (placed at d) out c out') where
