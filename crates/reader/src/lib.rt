@@ -132,7 +132,7 @@ pub fn next_item<'a>(r: Reader<'a>, d: QoaDecoder) -> ReadItem<'a>
 }
 
 // The same from plain bytes and a place: whoever calls this one needs no reader.
-pub fn decode_from<'a>(src: &'a [u8], at: usize, d: QoaDecoder, out: &mut [i16]) -> DecodedAt
+pub fn decode_from(src: &[u8], at: usize, d: QoaDecoder, out: &mut [i16]) -> DecodedAt
     ensures { λ r. ⌜ IntoRead (now (src .entry)) at d (now (out .entry)) (r .at) (r .done) (now (out .exit)) ⌝ }
 {
     let read = decode_into(Reader { src, at }, d, out);
