@@ -3,6 +3,7 @@
 use Prim.Native.Nat.{ℕ}
 use mathlib.Core.Path.{_≡_, sym, _∙_}
 use mathlib.Core.List.{List}
+use denote.Ref.{RefT, now}
 use lib.IntN.{ℤ}
 use lib.ListN.{length}
 use Rattle.word.specs.Rules.{after, firstOf, good}
@@ -30,6 +31,15 @@ use Rattle.whole.specs.declared.answer.DecodeAnswer.{DecodeAnswer}
 use Rattle.whole.specs.declared.answer.NeedAnswer.{NeedAnswer}
 use Rattle.whole.specs.declared.answer.FramesAnswer.{FramesAnswer}
 use Rattle.whole.proofs.Answers.{told-decoded, told-frames, told-need}
+use Rattle.reader.specs.Read.{FrameRead, IntoRead, ItemRead}
+use Rattle.reader.specs.declared.FramePart.{FramePart}
+use Rattle.reader.specs.declared.OpenedReader.{OpenedReader}
+use Rattle.reader.specs.declared.ReadFrame.{ReadFrame}
+use Rattle.reader.specs.declared.ReadInto.{ReadInto}
+use Rattle.reader.specs.declared.ReadItem.{ReadItem}
+use Rattle.reader.specs.declared.Reader.{Reader}
+use Rattle.reader.specs.declared.places.DecodedAt.{DecodedAt}
+use Rattle.reader.proofs.Settled as R
 use Rattle.encoder.specs.Encoder as E
 use Rattle.encoder.specs.Calls.{CreateDone, FrameDone, headMemory, headTold, toldEncode}
 use Rattle.encoder.specs.declared.CreatedEncoder.{CreatedEncoder}
@@ -111,6 +121,49 @@ encode-all = all-settled
 
 pub encode-need : (c total : ℕ) (r s : N.NeedAnswer) → O.toldNeed r ≡ after (needRules c total) (good (needOf c total)) → O.toldNeed s ≡ after (needRules c total) (good (needOf c total)) → r ≡ s
 encode-need = need-settled
+
+-- ---- the functions of `reader`: the bytes that a reader holds are the caller's own
+
+pub reader-new : (src : RefT (List ℕ)) (r s : Reader) → (r .src ≡ src) × (r .at ≡ 0) → (s .src ≡ src) × (s .at ≡ 0) → r ≡ s
+reader-new = R.new-settled
+
+pub reader-moved : (g : Reader) (at : ℕ) (r s : Reader) → (r .src ≡ g .src) × (r .at ≡ at) → (s .src ≡ g .src) × (s .at ≡ at) → r ≡ s
+reader-moved = R.moved-settled
+
+pub reader-frame-part : (g : Reader) (r s : FramePart)
+    → (now (r .part) ≡ partOf (partLength (now (g .src)) (g .at)) (now (g .src)) (g .at)) × (toldPart (r .answer) ≡ partLength (now (g .src)) (g .at))
+    → (now (s .part) ≡ partOf (partLength (now (g .src)) (g .at)) (now (g .src)) (g .at)) × (toldPart (s .answer) ≡ partLength (now (g .src)) (g .at))
+    → (now (r .part) ≡ now (s .part)) × (r .answer ≡ s .answer)
+reader-frame-part g = R.frame-part-settled (now (g .src)) (g .at)
+
+pub reader-open : (src : RefT (List ℕ)) (r s : OpenedReader)
+    → (r .reader .src ≡ src) × (r .reader .at ≡ r .done .state .at) × (toldOpen (r .done .answer) ≡ after (openRules (now src)) (good tt)) × OpenLeaves (firstOf (openRules (now src))) (now src) (r .done .state)
+    → (s .reader .src ≡ src) × (s .reader .at ≡ s .done .state .at) × (toldOpen (s .done .answer) ≡ after (openRules (now src)) (good tt)) × OpenLeaves (firstOf (openRules (now src))) (now src) (s .done .state)
+    → (r .reader ≡ s .reader) × (r .done .answer ≡ s .done .answer) × (view (r .done .state) ≡ view (s .done .state))
+reader-open = R.reader-open-settled
+
+pub reader-decode-into : (g : Reader) (d : QoaDecoder) (out : List ℤ) (r s : ReadInto) (x y : List ℤ)
+    → (r .reader .src ≡ g .src) × IntoRead (now (g .src)) (g .at) d out (r .reader .at) (r .done) x
+    → (s .reader .src ≡ g .src) × IntoRead (now (g .src)) (g .at) d out (s .reader .at) (s .done) y
+    → (r .reader ≡ s .reader) × (r .done .answer ≡ s .done .answer) × (view (r .done .state) ≡ view (s .done .state)) × (x ≡ y)
+reader-decode-into = R.decode-into-settled
+
+pub reader-next-frame : (g : Reader) (d : QoaDecoder) (r s : ReadFrame)
+    → (r .reader .src ≡ g .src) × FrameRead (now (g .src)) (g .at) d (r .reader .at) (r .done)
+    → (s .reader .src ≡ g .src) × FrameRead (now (g .src)) (g .at) d (s .reader .at) (s .done)
+    → (r .reader ≡ s .reader) × (r .done .answer ≡ s .done .answer) × (view (r .done .state) ≡ view (s .done .state))
+reader-next-frame = R.next-frame-settled
+
+pub reader-next-item : (g : Reader) (d : QoaDecoder) (r s : ReadItem)
+    → (r .reader .src ≡ g .src) × ItemRead (now (g .src)) (g .at) d (r .reader .at) (r .done)
+    → (s .reader .src ≡ g .src) × ItemRead (now (g .src)) (g .at) d (s .reader .at) (s .done)
+    → (r .reader ≡ s .reader) × (r .done .item ≡ s .done .item) × (view (r .done .state) ≡ view (s .done .state))
+reader-next-item = R.next-item-settled
+
+pub reader-decode-from : (bs : List ℕ) (at : ℕ) (d : QoaDecoder) (out : List ℤ) (r s : DecodedAt) (x y : List ℤ)
+    → IntoRead bs at d out (r .at) (r .done) x → IntoRead bs at d out (s .at) (s .done) y
+    → (r .at ≡ s .at) × (r .done .answer ≡ s .done .answer) × (view (r .done .state) ≡ view (s .done .state)) × (x ≡ y)
+reader-decode-from = R.decode-from-settled
 
 -- ---- the refusal's number, and the C functions (qoa_decode_all, qoa_decode_need, qoa_channels, qoa_rate, qoa_decode_frames, qoa_part_length, the four
 -- qoa_facts_, qoa_encode_all, qoa_encode_need): each contract is one equation for the answer and one for the lent memory
