@@ -23,6 +23,10 @@ newLms = record { history = pos 0 ∷ pos 0 ∷ pos 0 ∷ pos 0 ∷ []; weights 
 unfoldable pub dot : List ℤ → List ℤ → ℤ
 dot a b = at a 0 *ℤ at b 0 +ℤ at a 1 *ℤ at b 1 +ℤ (at a 2 *ℤ at b 2 +ℤ at a 3 *ℤ at b 3)
 
+-- the sum of the three older ones
+unfoldable pub olderDot : List ℤ → List ℤ → ℤ
+olderDot a b = at a 0 *ℤ at b 0 +ℤ at a 1 *ℤ at b 1 +ℤ at a 2 *ℤ at b 2
+
 -- the prediction: the wrapped sum of weight times history, shifted right 13 keeping the sign
 unfoldable pub predicted : QoaLms → ℤ
 predicted lms = shrZ (wrap32 (dot (lms .weights) (lms .history))) (2 ^ 13)

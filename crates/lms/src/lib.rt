@@ -2,9 +2,9 @@
 // as a signed number once, at the end.
 ghost use mathlib.Core.Path.{_≡_};
 ghost use Prim.Native.Nat.{_≤_, _^_};
-ghost use lib.IntN.{natAbs, _+ℤ_};
-ghost use Rattle.wrap.specs.Wrap.{wrap32};
-ghost use Rattle.lms.specs.Predictor.{clamp16, costOf, dot, newLms, predicted, penaltyOf, stepped, updated, WeightsWithin};
+ghost use lib.IntN.{ℤ, natAbs, _+ℤ_, _*ℤ_};
+ghost use Rattle.wrap.specs.Wrap.{low32, wrap32};
+ghost use Rattle.lms.specs.Predictor.{clamp16, costOf, dot, newLms, olderDot, predicted, penaltyOf, stepped, updated, WeightsWithin};
 
 // Four numbers of history, the newest last, and a weight for each.
 pub struct QoaLms {
@@ -22,17 +22,29 @@ pub fn new_lms() -> QoaLms
     }
 }
 
-// The sum of the four products, wrapped.
-fn wrapped_dot(a: [i32; 4], b: [i32; 4]) -> i32
-    ensures { λ r. ⌜ r ≡ wrap32 (dot a b) ⌝ }
+// The low bits of the sum of the first three products.
+fn older_dot(a: [i32; 4], b: [i32; 4]) -> u32
+    ensures { λ r. ⌜ r ≡ low32 (olderDot a b) ⌝ }
 {
     let p0 = wrap::wrapping_mul(a[0], b[0]);
     let p1 = wrap::wrapping_mul(a[1], b[1]);
     let p2 = wrap::wrapping_mul(a[2], b[2]);
-    let p3 = wrap::wrapping_mul(a[3], b[3]);
-    let low = std::num::wrapping_add_u32(p0, p1);
-    let high = std::num::wrapping_add_u32(p2, p3);
-    wrap::signed(std::num::wrapping_add_u32(low, high))
+    std::num::wrapping_add_u32(std::num::wrapping_add_u32(p0, p1), p2)
+}
+
+// The sum with one product more, wrapped. The newest product comes last, since the others are known before it.
+fn add_newest(older: u32, a: i32, b: i32) -> i32
+    ensures { λ r. ⌜ ((z : ℤ) → older ≡ low32 z → r ≡ wrap32 (z +ℤ a *ℤ b)) ⌝ }
+{
+    let newest = wrap::wrapping_mul(a, b);
+    wrap::signed(std::num::wrapping_add_u32(older, newest))
+}
+
+// The sum of the four products, wrapped.
+fn wrapped_dot(a: [i32; 4], b: [i32; 4]) -> i32
+    ensures { λ r. ⌜ r ≡ wrap32 (dot a b) ⌝ }
+{
+    add_newest(older_dot(a, b), a[3], b[3])
 }
 
 // What the predictor expects next.
