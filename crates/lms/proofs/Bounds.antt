@@ -1,7 +1,7 @@
 -- The ranges of the definitions, which callers need for what the functions require.
 -- Assumes nothing.
 use mathlib.Core.Bool.{Bool, true, false}
-use mathlib.Core.Path.{_≡_, refl}
+use mathlib.Core.Path.{_≡_, refl, ap}
 use Prim.Native.Nat.{ℕ, zero, suc, _+_, _-_, _^_, _≤_, _<_, zero-le}
 use native.Mathlib.Nat.{add-le-add, le-refl, le-trans}
 use native.Mathlib.Omega.{arith}
@@ -39,6 +39,12 @@ pub clamp16-fits : (z : ℤ) → SFits w16 (clamp16 z)
 unfolding clamp16
 clamp16-fits (pos n) = record { sfits = omega arith }
 clamp16-fits (negsuc n) = record { sfits = omega arith }
+
+-- a number of 16 bits is its own clamp
+pub clamp16-kept : (z : ℤ) → mag z < 2 ^ 15 → z ≡ clamp16 z
+unfolding clamp16
+clamp16-kept (pos n) h = ap pos (omega arith)
+clamp16-kept (negsuc n) h = ap negsuc (omega arith)
 
 -- ---- a new predictor
 

@@ -2,14 +2,23 @@
 // as a signed number once, at the end.
 ghost use mathlib.Core.Path.{_≡_};
 ghost use Prim.Native.Nat.{_≤_, _^_};
-ghost use lib.IntN.{ℤ, natAbs, _+ℤ_, _*ℤ_};
+ghost use lib.Dec.{ltb};
+ghost use lib.IntN.{ℤ, pos, negsuc, natAbs, _+ℤ_, _*ℤ_};
+ghost use lib.Signed.{ltZ, mag};
 ghost use Rattle.wrap.specs.Wrap.{low32, wrap32};
-ghost use Rattle.lms.specs.Predictor.{clamp16, costOf, dot, newLms, olderDot, predicted, penaltyOf, stepped, updated, WeightsWithin};
+ghost use Rattle.lms.specs.Predictor.{clamp16, costOf, dot, newLms, olderDot, predicted, penaltyOf, pick, stepped, updated, WeightsWithin};
+ghost use Rattle.lms.specs.Loop.{aheadOf};
 
 // Four numbers of history, the newest last, and a weight for each.
 pub struct QoaLms {
     pub history: [i32; 4],
     pub weights: [i32; 4],
+}
+
+// The predictor of a decoding loop, with the sum of its three older products, which is known before the newest sample is.
+pub struct Ahead {
+    pub lms: QoaLms,
+    pub older: u32,
 }
 
 // The predictor of a new encoder.
@@ -108,7 +117,7 @@ fn step(weight: i32, history: i32, d: i32) -> i32
 }
 
 // The predictor after a sample whose table value is `residual`.
-pub fn update(lms: QoaLms, sample: i16, residual: i32) -> QoaLms
+fn moved(lms: QoaLms, sample: i32, residual: i32) -> QoaLms
     requires { ⌜ (WeightsWithin (2 ^ 30) lms) × (natAbs residual ≤ 14336) ⌝ }
     ensures { λ r. ⌜ r ≡ updated lms sample residual ⌝ }
 {
@@ -116,7 +125,7 @@ pub fn update(lms: QoaLms, sample: i16, residual: i32) -> QoaLms
     let w = lms.weights;
     let d = residual >> 4;
     QoaLms {
-        history: [h[1], h[2], h[3], sample as i32],
+        history: [h[1], h[2], h[3], sample],
         weights: [
             step(w[0], h[0], d),
             step(w[1], h[1], d),
@@ -124,4 +133,76 @@ pub fn update(lms: QoaLms, sample: i16, residual: i32) -> QoaLms
             step(w[3], h[3], d),
         ],
     }
+}
+
+// The same, of a sample of 16 bits.
+pub fn update(lms: QoaLms, sample: i16, residual: i32) -> QoaLms
+    requires { ⌜ (WeightsWithin (2 ^ 30) lms) × (natAbs residual ≤ 14336) ⌝ }
+    ensures { λ r. ⌜ r ≡ updated lms sample residual ⌝ }
+{
+    moved(lms, sample as i32, residual)
+}
+
+// The predictor, made ready for a loop.
+pub fn ready(lms: QoaLms) -> Ahead
+    ensures { λ r. ⌜ r ≡ aheadOf lms ⌝ }
+{
+    let history = lms.history;
+    let weights = lms.weights;
+    Ahead {
+        lms,
+        older: older_dot(weights, history),
+    }
+}
+
+// What it expects next.
+fn expect(a: Ahead) -> i32
+    requires { ⌜ a ≡ aheadOf (a .lms) ⌝ }
+    ensures { λ r. ⌜ r ≡ predicted (a .lms) ⌝ }
+{
+    let lms = a.lms;
+    let history = lms.history;
+    let weights = lms.weights;
+    add_newest(a.older, weights[3], history[3]) >> 13
+}
+
+// Whether a number is one of 16 bits.
+pub fn is_short(x: i32) -> bool
+    ensures { λ r. ⌜ r ≡ ltb (mag x) 32768 ⌝ }
+{
+    if x < -32768 { false } else { x <= 32767 }
+}
+
+// The end of the 16-bit range that is on a number's side of zero.
+fn end_of(x: i32) -> i32
+    ensures { λ r. ⌜ r ≡ pick (ltZ x (pos 0)) (negsuc 32767) (pos 32767) ⌝ }
+{
+    if x < 0 { -32768 } else { 32767 }
+}
+
+// The prediction plus a table value, not clamped.
+pub fn sum_ahead(a: Ahead, residual: i32) -> i32
+    requires { ⌜ (a ≡ aheadOf (a .lms)) × (natAbs residual ≤ 14336) ⌝ }
+    ensures { λ r. ⌜ r ≡ predicted (a .lms) +ℤ residual ⌝ }
+{
+    expect(a) + residual
+}
+
+// The same, clamped to 16 bits. A sum that is too far out has the prediction's sign, which is known before the sum.
+pub fn clamped_ahead(a: Ahead, residual: i32) -> i32
+    requires { ⌜ (a ≡ aheadOf (a .lms)) × (natAbs residual ≤ 14336) ⌝ }
+    ensures { λ r. ⌜ r ≡ clamp16 (predicted (a .lms) +ℤ residual) ⌝ }
+{
+    let sum = sum_ahead(a, residual);
+    let end = end_of(expect(a));
+    if is_short(sum) { sum } else { end }
+}
+
+// The predictor of a loop after a sample.
+pub fn advance(a: Ahead, sample: i32, residual: i32) -> Ahead
+    requires { ⌜ (WeightsWithin (2 ^ 30) (a .lms)) × (natAbs residual ≤ 14336) ⌝ }
+    ensures { λ r. ⌜ r ≡ aheadOf (updated (a .lms) sample residual) ⌝ }
+{
+    let lms = a.lms;
+    ready(moved(lms, sample, residual))
 }

@@ -5,3 +5,4 @@ pub mod Growth
 pub mod Fits
 pub mod Parts
 pub mod Checked
+mod Steps

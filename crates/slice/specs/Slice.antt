@@ -1,7 +1,10 @@
 -- A slice, decoded: the predictor after each sample, and the samples. Assumes nothing.
+use mathlib.Core.Path.{_≡_}
+use mathlib.Core.List.{List}
 use Prim.Native.Nat.{ℕ, zero, suc}
 use lib.IntN.{ℤ}
 use Rattle.word.specs.Word.{scaleOf, codeOf}
+use Rattle.word.specs.Written.{written}
 use Rattle.lms.specs.Predictor.{at}
 use Rattle.lms.specs.declared.QoaLms.{QoaLms}
 use Rattle.scale.specs.Tables.{rowOf}
@@ -19,3 +22,7 @@ stateAfter w s (suc n) = heard (stateAfter w s n) (residualAt w n) .lms
 -- the i-th sample
 unfoldable pub sampleAt : ℕ → QoaLms → ℕ → ℤ
 sampleAt w s i = heard (stateAfter w s i) (residualAt w i) .sample
+
+-- n samples are heard, and stored at start, start + stride, ..: from the predictor s to `after`, from the memory o to `out`
+abbrev pub HeardTo : ℕ → QoaLms → List ℤ → ℕ → ℕ → ℕ → QoaLms → List ℤ → Type 0
+HeardTo w s o start stride n after out = (after ≡ stateAfter w s n) × (out ≡ written (sampleAt w s) o start stride n)

@@ -5,18 +5,29 @@ use lms::QoaLms;
 use trial::Heard;
 ghost use mathlib.Core.Path.{_≡_};
 ghost use Prim.Native.Nat.{ℕ, _+_, _*_, _^_, _≤_, _<_, min};
+ghost use mathlib.Core.List.{List};
+ghost use lib.IntN.{ℤ};
 ghost use lib.ListN.{length};
 ghost use Rattle.word.specs.Bytes.{be64};
-ghost use Rattle.word.specs.Word.{scaleOf};
+ghost use Rattle.word.specs.Word.{codeOf, scaleOf};
 ghost use Rattle.word.specs.Written.{written};
-ghost use Rattle.lms.specs.Predictor.{WeightsWithin};
+ghost use Rattle.lms.specs.Predictor.{at, WeightsWithin};
 ghost use Rattle.lms.specs.declared.QoaLms.{QoaLms};
 ghost use Rattle.scale.specs.Tables.{dequantTab, rowOf};
 ghost use Rattle.trial.specs.Trial.{heard};
 ghost use Rattle.header.specs.Format.{maxChannels, slicesOf};
-ghost use Rattle.slice.specs.Slice.{residualAt, sampleAt, stateAfter};
+ghost use Rattle.slice.specs.Slice.{residualAt, sampleAt, stateAfter, HeardTo};
 ghost use Rattle.slice.specs.Channel.{channelAt, runAfter};
 ghost use Rattle.slice.specs.Groups.{groupsAt, groupsStates, AllWithin};
+
+// The table value of the i-th code of a word, by a row of the table.
+fn value_at(row: &[i32; 8], word: u64, i: usize) -> i32
+    requires { ⌜ i < 20 ⌝ }
+    ensures { λ r. ⌜ r ≡ at (now (row .entry)) (codeOf word i) ⌝ }
+{
+    let code = word::code(word, i);
+    row[code]
+}
 
 // The i-th sample of a slice, whose row of the table is handed in.
 fn hear_code(row: &[i32; 8], lms: QoaLms, word: u64, i: usize) -> Heard
@@ -24,12 +35,134 @@ fn hear_code(row: &[i32; 8], lms: QoaLms, word: u64, i: usize) -> Heard
     requires small { ⌜ (WeightsWithin (2 ^ 30) lms) × (i < 20) ⌝ }
     ensures { λ r. ⌜ r ≡ heard lms (residualAt word i) ⌝ }
 {
-    let code = word::code(word, i);
-    let value = row[code];
-    trial::hear(lms, value)
+    trial::hear(lms, value_at(row, word, i))
 }
 
-// The first `count` samples of a slice, stored at start, start + stride, ..
+// How many samples of a slice are heard, and the predictor after them.
+struct Part {
+    done: usize,
+    lms: QoaLms,
+}
+
+// The word without its first `n` codes: those after them come first.
+fn drop_codes(word: u64, n: usize) -> u64
+    requires { ⌜ n ≤ 20 ⌝ }
+    ensures { λ r. ⌜ ((j : ℕ) → n + j < 20 → codeOf r j ≡ codeOf word (n + j)) ⌝ }
+{
+    word << (3 * n)
+}
+
+// The quiet loop: the samples of a slice from one on to another, up to the first that is to be clamped. A sum of 16 bits is its own clamp.
+fn hear_quiet(
+    row: &[i32; 8],
+    lms: QoaLms,
+    word: u64,
+    out: &mut [i16],
+    start: usize,
+    stride: usize,
+    from: usize,
+    to: usize,
+) -> Part
+    requires row { ⌜ now row ≡ rowOf (scaleOf word) ⌝ }
+    requires small { ⌜ (WeightsWithin (2 ^ 29 + 17920) lms) × (from ≤ to) × (to ≤ 20) ⌝ }
+    requires room { ⌜ ((i : ℕ) → i < to → start + i * stride < length (now out)) ⌝ }
+    ensures done { λ r. ⌜ r .done ≤ to ⌝ }
+    ensures heard { λ r. ⌜ ((s : QoaLms) (o : List ℤ) → HeardTo word s o start stride from lms (now (out .entry)) → HeardTo word s o start stride (r .done) (r .lms) (now (out .exit))) ⌝ }
+{
+    let rest = drop_codes(word, from);
+    let mut state = lms::ready(lms);
+    for i in from..to {
+        let value = value_at(row, rest, i - from);
+        let sum = lms::sum_ahead(state, value);
+        if !lms::is_short(sum) {
+            let left = state.lms;
+            return Part { done: i, lms: left };
+        }
+        out[start + i * stride] = sum as i16;
+        state = lms::advance(state, sum, value);
+    }
+    let after = state.lms;
+    Part {
+        done: to,
+        lms: after,
+    }
+}
+
+// The quiet loop from a slice's start, four samples at a time: the compiler writes four out, and no number has to move.
+fn hear_fours(
+    row: &[i32; 8],
+    lms: QoaLms,
+    word: u64,
+    out: &mut [i16],
+    start: usize,
+    stride: usize,
+    fours: usize,
+) -> Part
+    requires row { ⌜ now row ≡ rowOf (scaleOf word) ⌝ }
+    requires small { ⌜ (WeightsWithin (2 ^ 29) lms) × (4 * fours ≤ 20) ⌝ }
+    requires room { ⌜ ((i : ℕ) → i < 4 * fours → start + i * stride < length (now out)) ⌝ }
+    ensures done { λ r. ⌜ r .done ≤ 4 * fours ⌝ }
+    ensures heard { λ r. ⌜ HeardTo word lms (now (out .entry)) start stride (r .done) (r .lms) (now (out .exit)) ⌝ }
+{
+    let mut part = Part { done: 0, lms };
+    for k in 0..fours {
+        let state = part.lms;
+        part = hear_quiet(row, state, word, out, start, stride, 4 * k, 4 * k + 4);
+        if part.done < 4 * k + 4 {
+            return part;
+        }
+    }
+    part
+}
+
+// The loud loop: every sample of a slice from one on is clamped.
+fn hear_loud(
+    row: &[i32; 8],
+    lms: QoaLms,
+    word: u64,
+    out: &mut [i16],
+    start: usize,
+    stride: usize,
+    from: usize,
+    count: usize,
+) -> QoaLms
+    requires row { ⌜ now row ≡ rowOf (scaleOf word) ⌝ }
+    requires small { ⌜ (WeightsWithin (2 ^ 29 + 17920) lms) × (from ≤ count) × (count ≤ 20) ⌝ }
+    requires room { ⌜ ((i : ℕ) → i < count → start + i * stride < length (now out)) ⌝ }
+    ensures { λ r. ⌜ ((s : QoaLms) (o : List ℤ) → HeardTo word s o start stride from lms (now (out .entry)) → HeardTo word s o start stride count r (now (out .exit))) ⌝ }
+{
+    let mut state = lms::ready(lms);
+    let mut rest = drop_codes(word, from);
+    for i in from..count {
+        let value = value_at(row, rest, 0);
+        let sample = lms::clamped_ahead(state, value);
+        out[start + i * stride] = sample as i16;
+        state = lms::advance(state, sample, value);
+        rest = drop_codes(rest, 1);
+    }
+    state.lms
+}
+
+// 1 where a number is at an end of the 16-bit range.
+fn at_end(x: i32) -> usize
+    ensures { λ r. ⌜ r ≤ 1 ⌝ }
+{
+    if x < -32767 {
+        return 1;
+    }
+    if 32766 < x { 1 } else { 0 }
+}
+
+// How many times four samples the quiet loop is to try: none where a sample before was at an end, since more will be.
+fn fours_to_try(lms: QoaLms, count: usize) -> usize
+    ensures { λ r. ⌜ 4 * r ≤ count ⌝ }
+{
+    let h = lms.history;
+    let ends = at_end(h[0]) + at_end(h[1]) + at_end(h[2]) + at_end(h[3]);
+    if ends == 0 { count / 4 } else { 0 }
+}
+
+// The first `count` samples of a slice, stored at start, start + stride, ..: by the quiet loop as far as it goes, then by the loud one.
 fn hear_stored(
     row: &[i32; 8],
     lms: QoaLms,
@@ -45,14 +178,11 @@ fn hear_stored(
     ensures state { λ r. ⌜ r ≡ stateAfter word lms count ⌝ }
     ensures samples { λ r. ⌜ now (out .exit) ≡ written (sampleAt word lms) (now (out .entry)) start stride count ⌝ }
 {
-    let mut state = lms;
-    for i in 0..count {
-        let heard = hear_code(row, state, word, i);
-        let sample = heard.sample;
-        out[start + i * stride] = sample;
-        state = heard.lms;
-    }
-    state
+    let fours = fours_to_try(lms, count);
+    let part = hear_fours(row, lms, word, out, start, stride, fours);
+    let done = part.done;
+    let state = part.lms;
+    hear_loud(row, state, word, out, start, stride, done, count)
 }
 
 // The samples of a slice from one on, heard and not stored, for the predictor's sake.

@@ -2,18 +2,18 @@
 -- Assumes nothing.
 use mathlib.Core.Path.{_≡_, sym, ap, subst, _∙_}
 use mathlib.Core.Bool.{true, false}
-use Prim.Native.Nat.{_^_, _<_}
 use native.Mathlib.Omega.{arith}
 use borrow.Author.Tests.{ltb-true}
 use lib.Dec.{T}
 use lib.IntN.{ℤ, pos, negsuc}
-use lib.Signed.{ltZ, mag}
+use lib.Signed.{ltZ}
 use mir.Syntax.{w16}
 use mir.Val.{SFits}
 use mir.Facts.{toZ-ofZ}
 use Rattle.wrap.proofs.Integers.{fits-of}
 use Rattle.wrap.proofs.Linear.{lt-false, mag-parts}
 use Rattle.lms.specs.Predictor.{clamp16}
+use Rattle.lms.proofs.Bounds.{clamp16-kept}
 use Rattle.lms.proofs.clamp.Statement.{statement}
 use Rattle.lms.proofs.clamp.Tie as tie
 
@@ -32,11 +32,6 @@ high (negsuc n) e = absurd (subst T (sym e) tt)
 range : (z : ℤ) → ltZ z (negsuc 32767) ≡ false → ltZ (pos 32767) z ≡ false → SFits w16 z
 range z e f = fits-of w16 z (mag-parts z 32768 (omega (arith, lt-false (pos 32767) z f)) (omega (arith, lt-false z (negsuc 32767) e)))
 
-kept : (z : ℤ) → mag z < 2 ^ 15 → z ≡ clamp16 z
-unfolding clamp16
-kept (pos n) h = ap pos (omega arith)
-kept (negsuc n) h = ap negsuc (omega arith)
-
 -- ---- the needs
 
 returns : tie.Need-returns
@@ -54,7 +49,7 @@ cast-result : tie.Need-cast-result
 cast-result c = rw (toZ-ofZ (c .before .before .fits .x)) (small c)
 
 returns-3 : tie.Need-returns-3
-returns-3 c = rw (toZ-ofZ (c .before .before .fits .x)) (toZ-ofZ (small c) ∙ kept (c .before .before .args .x) (small c .sfits))
+returns-3 c = rw (toZ-ofZ (c .before .before .fits .x)) (toZ-ofZ (small c) ∙ clamp16-kept (c .before .before .args .x) (small c .sfits))
 
 pub clamp-spec : {M : Type 1} → statement M
 clamp-spec = tie.close (tie.spec returns returns-2 cast-result returns-3)
