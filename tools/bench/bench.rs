@@ -4,7 +4,7 @@
 #[allow(dead_code)]
 mod signals;
 
-use qoaudio::QoaDesc;
+use qoaudio::{QoaDecoder, QoaDesc};
 use std::hint::black_box;
 
 extern "C" {
@@ -18,6 +18,7 @@ extern "C" {
         out: *mut u8,
         room: usize,
     ) -> i64;
+    fn blocks_decode(bytes: *const u8, length: usize, out: *mut i16, room: usize, block: usize) -> usize;
     fn clock_gettime(clock: i32, time: *mut [i64; 2]) -> i32;
 }
 
@@ -46,13 +47,32 @@ fn least<const N: usize>(rounds: usize, mut calls: [&mut dyn FnMut(); N]) -> [i6
     best
 }
 
+/// A whole file through the source's decode_into, in blocks, as blocks.rt.txt has it for the port.
+fn source_blocks(file: &[u8], out: &mut [i16], block: usize) -> usize {
+    let mut decoder = QoaDecoder::new(file).unwrap();
+    let mut done = 0;
+    while done < out.len() {
+        let room = block.min(out.len() - done);
+        let count = decoder.decode_into(&mut out[done..done + room]).unwrap();
+        done += count;
+        if count < room {
+            decoder.next_frame().unwrap();
+        }
+    }
+    done
+}
+
+fn port_blocks(file: &[u8], out: &mut [i16], block: usize) -> usize {
+    unsafe { blocks_decode(file.as_ptr(), file.len(), out.as_mut_ptr(), out.len(), block) }
+}
+
 /// Samples over all channels of a run.
 const SAMPLES: usize = 400_000;
 
 fn main() {
     let rounds = std::env::args().nth(1).map_or(30, |n| n.parse().unwrap());
-    println!("| signal | channels | decode_all: source | port | ratio | encode_all: source | port | ratio |");
-    println!("|---|---|---|---|---|---|---|---|");
+    println!("| signal | channels | decode_all: source | port | ratio | into 4096: source | port | ratio | into 160: source | port | ratio | encode_all: source | port | ratio |");
+    println!("|{}", "---|".repeat(14));
     for kind in signals::KINDS {
         for c in [1, 2, 8] {
             let n = SAMPLES / c;
@@ -60,8 +80,10 @@ fn main() {
             let desc = QoaDesc { channels: c as u8, sample_rate: 44100, samples: n as u32 };
             let file = qoaudio::encode_all(&samples, &desc).unwrap();
             let mut out = vec![0i16; n * c];
+            let mut blocks = [(); 4].map(|_| vec![0i16; n * c]);
+            let [source_long, port_long, source_short, port_short] = &mut blocks;
             let mut made = vec![0u8; file.len()];
-            let [source, port, source_enc, port_enc] = least(
+            let times = least(
                 rounds,
                 [
                     &mut || drop(black_box(qoaudio::decode_all(black_box(&file[..])).map(|a| a.samples.len()))),
@@ -69,6 +91,10 @@ fn main() {
                         let count = qoa_decode_all(black_box(file.as_ptr()), file.len(), out.as_mut_ptr(), out.len());
                         assert!(count == (n * c) as i64);
                     },
+                    &mut || assert!(source_blocks(black_box(&file), source_long, 4096) == n * c),
+                    &mut || assert!(port_blocks(black_box(&file), port_long, 4096) == n * c),
+                    &mut || assert!(source_blocks(black_box(&file), source_short, 160) == n * c),
+                    &mut || assert!(port_blocks(black_box(&file), port_short, 160) == n * c),
                     &mut || drop(black_box(qoaudio::encode_all(black_box(&samples), &desc).map(|b| b.len()))),
                     &mut || unsafe {
                         let from = black_box(samples.as_ptr());
@@ -79,16 +105,13 @@ fn main() {
                 ],
             );
             assert!(made == file);
-            let each = |t: i64| t as f64 / (n * c) as f64;
-            println!(
-                "| {kind} | {c} | {:.2} | {:.2} | {:.2} | {:.1} | {:.1} | {:.2} |",
-                each(source),
-                each(port),
-                port as f64 / source as f64,
-                each(source_enc),
-                each(port_enc),
-                port_enc as f64 / source_enc as f64
-            );
+            assert!(blocks.iter().all(|b| *b == out) && out == qoaudio::decode_all(&file[..]).unwrap().samples);
+            print!("| {kind} | {c} |");
+            for pair in times.chunks(2) {
+                let each = |t: i64| t as f64 / (n * c) as f64;
+                print!(" {:.2} | {:.2} | {:.2} |", each(pair[0]), each(pair[1]), pair[1] as f64 / pair[0] as f64);
+            }
+            println!();
         }
     }
 }
