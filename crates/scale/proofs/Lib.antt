@@ -2,3 +2,4 @@
 pub mod Table
 pub mod Rules
 pub mod Bounds
+pub mod QuickRows

@@ -16,6 +16,10 @@ factorOf k = getD factors k 0
 unfoldable pub reciprocalOf : ℕ → ℕ
 reciprocalOf k = (65536 + factorOf k - 1) / factorOf k
 
+-- those of all sixteen
+unfoldable pub reciprocalTab : List ℤ
+reciprocalTab = map (λ (s : ℕ). pos ((65536 + s - 1) / s)) factors
+
 -- a magnitude, followed by its negative
 abbrev pub both : ℕ → List ℤ → List ℤ
 both m more = pos m ∷ negℤ (pos m) ∷ more

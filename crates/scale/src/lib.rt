@@ -1,8 +1,14 @@
 // The tables, and the division by a scale factor.
+mod quick;
+
+pub use quick::quick_code;
+pub use quick::quick_codes;
+pub use quick::quick_tab;
+pub use quick::quick_value;
 ghost use mathlib.Core.Path.{_≡_};
 ghost use Prim.Native.Nat.{_<_};
 ghost use lib.IntN.{pos};
-ghost use Rattle.scale.specs.Tables.{dequantTab, reciprocalOf};
+ghost use Rattle.scale.specs.Tables.{dequantTab, reciprocalOf, reciprocalTab};
 ghost use Rattle.scale.specs.Division.{codeFor, dividedBy, signOf};
 
 // The encoder's code of each quotient from -8 to 8.
@@ -54,6 +60,13 @@ pub fn reciprocal(sf: usize) -> i32
     ensures { λ r. ⌜ r ≡ pos (reciprocalOf sf) ⌝ }
 {
     QOA_RECIPROCAL_TAB[sf]
+}
+
+// All of them. A caller holds them as it holds the table.
+pub fn reciprocals() -> [i32; 16]
+    ensures { λ r. ⌜ r ≡ reciprocalTab ⌝ }
+{
+    QOA_RECIPROCAL_TAB
 }
 
 // The whole table. A caller holds it for a frame, since a constant is built anew at each use.
