@@ -2,10 +2,11 @@
 use lms::QoaLms;
 ghost use mathlib.Core.Path.{_≡_};
 ghost use Prim.Native.Nat.{_≤_, _<_, _^_};
-ghost use lib.IntN.{natAbs};
-ghost use Rattle.lms.specs.Predictor.{WeightsWithin};
-ghost use Rattle.scale.specs.Tables.{rowOf};
-ghost use Rattle.trial.specs.Trial.{codeTried, heard, tried};
+ghost use lib.IntN.{natAbs, _-ℤ_};
+ghost use Rattle.lms.specs.Predictor.{predicted, WeightsWithin};
+ghost use Rattle.scale.specs.Quick.{quickCodes, quickRow};
+ghost use Rattle.scale.specs.Tables.{reciprocalTab, rowOf};
+ghost use Rattle.trial.specs.Trial.{codeTried, heard, tried, valueTried};
 
 // A sample that is heard, with the predictor after it.
 pub struct Heard {
@@ -31,22 +32,19 @@ pub fn hear(lms: QoaLms, value: i32) -> Heard
     Heard { sample, lms: next }
 }
 
-// The code of a sample's difference from the prediction.
-fn choose(lms: QoaLms, sample: i16, sf: usize) -> u8
-    requires { ⌜ sf < 16 ⌝ }
-    ensures { λ r. ⌜ r ≡ codeTried lms sample sf ⌝ }
+// How far a sample is from the prediction.
+fn residual(lms: QoaLms, sample: i16) -> i32
+    ensures { λ r. ⌜ r ≡ sample -ℤ predicted lms ⌝ }
 {
-    let residual = (sample as i32) - lms::predict(lms);
-    scale::code(scale::qoa_div(residual, sf))
+    (sample as i32) - lms::predict(lms)
 }
 
-// A sample, tried at a scale factor, whose row of the table is handed in.
-pub fn attempt(lms: QoaLms, sample: i16, sf: usize, row: [i32; 8]) -> Tried
-    requires { ⌜ (WeightsWithin (2 ^ 30) lms) × (sf < 16) × (row ≡ rowOf sf) ⌝ }
+// What a sample's code and its table value come to.
+fn outcome(lms: QoaLms, sample: i16, sf: usize, code: u8, value: i32) -> Tried
+    requires { ⌜ (WeightsWithin (2 ^ 30) lms) × (sf < 16) ⌝ }
+    requires { ⌜ (code ≡ codeTried lms sample sf) × (value ≡ valueTried lms sample sf) ⌝ }
     ensures { λ r. ⌜ r ≡ tried lms sample sf ⌝ }
 {
-    let code = choose(lms, sample, sf);
-    let value = row[code as usize];
     let heard = hear(lms, value);
     let sum = heard.sample;
     let next = heard.lms;
@@ -57,4 +55,40 @@ pub fn attempt(lms: QoaLms, sample: i16, sf: usize, row: [i32; 8]) -> Tried
         cost,
         lms: next,
     }
+}
+
+// A sample, tried at a scale factor, whose row of the table is handed in.
+pub fn attempt(
+    lms: QoaLms,
+    sample: i16,
+    sf: usize,
+    reciprocals: &[i32; 16],
+    codes: &[u8; 34],
+    row: [i32; 8],
+) -> Tried
+    requires { ⌜ (WeightsWithin (2 ^ 30) lms) × (sf < 16) × (row ≡ rowOf sf) ⌝ }
+    requires { ⌜ (now reciprocals ≡ reciprocalTab) × (now codes ≡ quickCodes) ⌝ }
+    ensures { λ r. ⌜ r ≡ tried lms sample sf ⌝ }
+{
+    let code = scale::quick_code(residual(lms, sample), sf, reciprocals, codes);
+    outcome(lms, sample, sf, code, row[code as usize])
+}
+
+// The same, with the quick row, where one load gives the table value: a run tries its samples one after another and waits for it.
+pub fn attempt_quick(
+    lms: QoaLms,
+    sample: i16,
+    sf: usize,
+    reciprocals: &[i32; 16],
+    codes: &[u8; 34],
+    row: &[i16],
+) -> Tried
+    requires { ⌜ (WeightsWithin (2 ^ 30) lms) × (sf < 16) × (now row ≡ quickRow sf) ⌝ }
+    requires { ⌜ (now reciprocals ≡ reciprocalTab) × (now codes ≡ quickCodes) ⌝ }
+    ensures { λ r. ⌜ r ≡ tried lms sample sf ⌝ }
+{
+    let v = residual(lms, sample);
+    let code = scale::quick_code(v, sf, reciprocals, codes);
+    let value = scale::quick_value(v, sf, reciprocals, row);
+    outcome(lms, sample, sf, code, value)
 }
