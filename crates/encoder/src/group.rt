@@ -5,7 +5,8 @@ ghost use lib.ListN.{length};
 ghost use Rattle.word.specs.Bytes.{bytesOf};
 ghost use Rattle.word.specs.Written.{written};
 ghost use Rattle.lms.specs.Predictor.{WeightsWithin};
-ghost use Rattle.scale.specs.Tables.{dequantTab};
+ghost use Rattle.scale.specs.Quick.{quickCodes, quickTab};
+ghost use Rattle.scale.specs.Tables.{dequantTab, reciprocalTab};
 ghost use Rattle.header.specs.Format.{maxChannels, slicesOf};
 ghost use Rattle.header.specs.Predictor.{lmsOf};
 ghost use Rattle.search.specs.Search.{encodedSlice, strided};
@@ -32,6 +33,9 @@ pub fn put_states(states: [QoaLms; QOA_MAX_CHANNELS], channels: usize, out: &mut
 // Stores slice group `g`, of `count` samples per channel, and hands back the predictors after it.
 fn put_group(
     tab: &[[i32; 8]; 16],
+    quick: &[[i16; 34]; 16],
+    reciprocals: &[i32; 16],
+    coding: &[u8; 34],
     states: [QoaLms; QOA_MAX_CHANNELS],
     channels: usize,
     samples: &[i16],
@@ -41,6 +45,7 @@ fn put_group(
     at: usize,
 ) -> [QoaLms; QOA_MAX_CHANNELS]
     requires table { ⌜ now tab ≡ dequantTab ⌝ }
+    requires quick { ⌜ (now quick ≡ quickTab) × (now reciprocals ≡ reciprocalTab) × (now coding ≡ quickCodes) ⌝ }
     requires small { ⌜ (channels ≤ maxChannels) × (0 < count) × (count ≤ 20) ⌝ }
     requires whole { ⌜ start + count * channels ≤ length (now samples) ⌝ }
     requires room { ⌜ at + 8 * channels ≤ length (now out) ⌝ }
@@ -51,7 +56,17 @@ fn put_group(
     let mut next = states;
     for j in 0..channels {
         let lms = next[j];
-        let slice = search::encode_slice(tab, lms, samples, start + j, channels, count);
+        let slice = search::encode_slice(
+            tab,
+            quick,
+            reciprocals,
+            coding,
+            lms,
+            samples,
+            start + j,
+            channels,
+            count,
+        );
         let after = slice.lms;
         next[j] = after;
         word::write_u64(out, at + 8 * j, slice.word);
@@ -87,6 +102,9 @@ pub fn put_groups(
     ensures bytes { λ r. ⌜ now (out .exit) ≡ overlaid (now (out .entry)) at (laid (slicesOf n) (λ g. laid channels (λ j. bytesOf 8 (sliceWord (lmsOf states j) (strided n (now (samples .entry)) j channels) g)))) ⌝ }
 {
     let tab = scale::dequant_tab();
+    let coding = scale::quick_codes();
+    let quick = scale::quick_tab(&tab, &coding);
+    let reciprocals = scale::reciprocals();
     let slices = slices_of(n);
     let mut next = states;
     for g in 0..slices {
@@ -94,6 +112,9 @@ pub fn put_groups(
         let count = slice_len(n - done);
         let after = put_group(
             &tab,
+            &quick,
+            &reciprocals,
+            &coding,
             next,
             channels,
             samples,

@@ -4,7 +4,8 @@ ghost use mathlib.Core.Path.{_≡_};
 ghost use Prim.Native.Nat.{_+_, _-_, _*_, _≤_, _<_, _^_};
 ghost use lib.ListN.{length, take};
 ghost use Rattle.lms.specs.Predictor.{at, WeightsWithin};
-ghost use Rattle.scale.specs.Tables.{dequantTab, rowOf};
+ghost use Rattle.scale.specs.Quick.{quickCodes, quickRow, quickTab};
+ghost use Rattle.scale.specs.Tables.{dequantTab, reciprocalTab, rowOf};
 ghost use Rattle.search.specs.Candidate.{none, stepOf};
 ghost use Rattle.search.specs.Search.{encodedSlice, leaderOf, strided};
 ghost use Rattle.search.specs.Parts.{begunOf, countedOf, drops, firstsOf, SamplesFit};
@@ -61,15 +62,22 @@ fn gather(samples: &[i16], start: usize, stride: usize, n: usize) -> [i16; 20]
 }
 
 // The first sample, tried at each scale factor.
-fn first_trials(tab: &[[i32; 8]; 16], lms: QoaLms, samples: &[i16]) -> Firsts
-    requires { ⌜ (now tab ≡ dequantTab) × (0 < length (now samples)) × (WeightsWithin (2 ^ 30) lms) ⌝ }
+fn first_trials(
+    tab: &[[i32; 8]; 16],
+    reciprocals: &[i32; 16],
+    coding: &[u8; 34],
+    lms: QoaLms,
+    samples: &[i16],
+) -> Firsts
+    requires { ⌜ (now tab ≡ dequantTab) × (now reciprocals ≡ reciprocalTab) × (now coding ≡ quickCodes) ⌝ }
+    requires { ⌜ (0 < length (now samples)) × (WeightsWithin (2 ^ 30) lms) ⌝ }
     ensures { λ r. ⌜ r ≡ firstsOf lms (at (now (samples .entry)) 0) ⌝ }
 {
     let mut codes = [0u8; 16];
     let mut keys = [0u64; 16];
     for sf in 0..16 {
         let row = tab[sf];
-        let t = trial::attempt(lms, samples[0], sf, row);
+        let t = trial::attempt(lms, samples[0], sf, reciprocals, coding, row);
         codes[sf] = t.code;
         keys[sf] = t.cost * 16 + sf as u64;
     }
@@ -91,13 +99,22 @@ fn begin(lms: QoaLms, sf: usize, row: [i32; 8], code: u8, cost: u64) -> Run
 }
 
 // A candidate after one sample more.
-fn advance(run: Run, samples: &[i16], i: usize, sf: usize, row: [i32; 8]) -> Run
+fn advance(
+    run: Run,
+    samples: &[i16],
+    i: usize,
+    sf: usize,
+    reciprocals: &[i32; 16],
+    coding: &[u8; 34],
+    row: &[i16],
+) -> Run
     requires { ⌜ (run .rank < 2 ^ 62) × (run .word < 2 ^ 61) × (WeightsWithin (2 ^ 30) (run .lms)) ⌝ }
-    requires { ⌜ (i < length (now samples)) × (sf < 16) × (row ≡ rowOf sf) ⌝ }
+    requires { ⌜ (i < length (now samples)) × (sf < 16) × (now row ≡ quickRow sf) ⌝ }
+    requires { ⌜ (now reciprocals ≡ reciprocalTab) × (now coding ≡ quickCodes) ⌝ }
     ensures { λ r. ⌜ r ≡ stepOf sf (at (now (samples .entry)) i) run ⌝ }
 {
     let before = run.lms;
-    let t = trial::attempt(before, samples[i], sf, row);
+    let t = trial::attempt_quick(before, samples[i], sf, reciprocals, coding, row);
     let next = t.lms;
     Run {
         rank: run.rank + t.cost,
@@ -132,13 +149,22 @@ fn unled(lms: QoaLms) -> Leader
     Leader { sf: 0, run }
 }
 
-// The search: which scale factor is chosen, its run, and the number of trials.
-fn choose(tab: &[[i32; 8]; 16], lms: QoaLms, samples: &[i16]) -> Counted
+// The search: which scale factor is chosen, its run, and the number of trials. The next key is found before the run of the
+// candidate in turn: neither has to wait for the other.
+fn choose(
+    tab: &[[i32; 8]; 16],
+    quick: &[[i16; 34]; 16],
+    reciprocals: &[i32; 16],
+    coding: &[u8; 34],
+    lms: QoaLms,
+    samples: &[i16],
+) -> Counted
     requires { ⌜ (now tab ≡ dequantTab) × (WeightsWithin (2 ^ 29) lms) ⌝ }
+    requires { ⌜ (now quick ≡ quickTab) × (now reciprocals ≡ reciprocalTab) × (now coding ≡ quickCodes) ⌝ }
     requires { ⌜ (0 < length (now samples)) × (length (now samples) ≤ 20) × SamplesFit (now samples) ⌝ }
     ensures { λ r. ⌜ r ≡ countedOf lms (now (samples .entry)) ⌝ }
 {
-    let first = first_trials(tab, lms, samples);
+    let first = first_trials(tab, reciprocals, coding, lms, samples);
     let codes = first.codes;
     let keys = first.keys;
     let mut best = unled(lms);
@@ -152,11 +178,13 @@ fn choose(tab: &[[i32; 8]; 16], lms: QoaLms, samples: &[i16]) -> Counted
             break 'candidates;
         }
         let sf = (key % 16) as usize;
+        let after = order::next_key(&keys, key + 1);
         let row = tab[sf];
         let mut run = begin(lms, sf, row, codes[sf], cost);
+        let fast = quick[sf];
         let mut i = 1;
         'samples: while i < n {
-            let next = advance(run, samples, i, sf, row);
+            let next = advance(run, samples, i, sf, reciprocals, coding, &fast[0..34]);
             run = next;
             trials += 1;
             if dropped(limit, i, run.rank) {
@@ -169,7 +197,7 @@ fn choose(tab: &[[i32; 8]; 16], lms: QoaLms, samples: &[i16]) -> Counted
                 best = Leader { sf, run };
             }
         }
-        key = order::next_key(&keys, key + 1);
+        key = after;
     }
     Counted {
         leader: best,
@@ -180,6 +208,9 @@ fn choose(tab: &[[i32; 8]; 16], lms: QoaLms, samples: &[i16]) -> Counted
 // The slice of `n` samples of one channel, `stride` apart from `start` on.
 pub fn encode_slice(
     tab: &[[i32; 8]; 16],
+    quick: &[[i16; 34]; 16],
+    reciprocals: &[i32; 16],
+    coding: &[u8; 34],
     lms: QoaLms,
     samples: &[i16],
     start: usize,
@@ -187,11 +218,12 @@ pub fn encode_slice(
     n: usize,
 ) -> Encoded
     requires { ⌜ (now tab ≡ dequantTab) × (WeightsWithin (2 ^ 29) lms) ⌝ }
+    requires { ⌜ (now quick ≡ quickTab) × (now reciprocals ≡ reciprocalTab) × (now coding ≡ quickCodes) ⌝ }
     requires { ⌜ (0 < n) × (n ≤ 20) × (start + (n - 1) * stride < length (now samples)) ⌝ }
     ensures { λ r. ⌜ r ≡ encodedSlice lms (strided n (now (samples .entry)) start stride) ⌝ }
 {
     let taken = gather(samples, start, stride, n);
-    let found = choose(tab, lms, &taken[0..n]);
+    let found = choose(tab, quick, reciprocals, coding, lms, &taken[0..n]);
     let leader = found.leader;
     let run = leader.run;
     let after = run.lms;

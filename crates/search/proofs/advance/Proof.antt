@@ -17,29 +17,29 @@ use Rattle.search.proofs.advance.Statement.{statement}
 use Rattle.search.proofs.advance.Tie as tie
 
 -- The sample that is read is one of 16 bits.
-sample-fits : (c : tie.After-attempt-arg) → SFits w16 (at (now (c .before .before .args .samples)) (c .before .before .args .i))
-sample-fits c = record { sfits = c .attempt-arg .given }
+sample-fits : (c : tie.After-attempt-quick-arg) → SFits w16 (at (now (c .before .before .args .samples)) (c .before .before .args .i))
+sample-fits c = record { sfits = c .attempt-quick-arg .given }
 
 -- What was tried.
-tried-is : (c : tie.After-attempt) → c .attempt .result ≡ tried (c .before .before .before .args .run .lms) (at (now (c .before .before .before .args .samples)) (c .before .before .before .args .i)) (c .before .before .before .args .sf)
+tried-is : (c : tie.After-attempt-quick) → c .attempt-quick .result ≡ tried (c .before .before .before .args .run .lms) (at (now (c .before .before .before .args .samples)) (c .before .before .before .args .i)) (c .before .before .before .args .sf)
 tried-is c =
     let a = c .before .before .before .args in
-    c .attempt .ensures ∙ ap (λ (x : ℤ). tried (a .run .lms) x (a .sf)) (toZ-ofZ (sample-fits (c .before)))
+    c .attempt-quick .ensures ∙ ap (λ (x : ℤ). tried (a .run .lms) x (a .sf)) (toZ-ofZ (sample-fits (c .before)))
 
-mul-attempt : tie.Need-mul-attempt
-mul-attempt c = search needs
+mul-attempt-quick : tie.Need-mul-attempt-quick
+mul-attempt-quick c = search needs
 
-shared-slice-copy-out-attempt : tie.Need-shared-slice-copy-out-attempt
-shared-slice-copy-out-attempt c = search needs
+shared-slice-copy-out-attempt-quick : tie.Need-shared-slice-copy-out-attempt-quick
+shared-slice-copy-out-attempt-quick c = search needs
 
-attempt-requires : tie.Need-attempt-requires
-attempt-requires c κs = search needs
+attempt-quick-requires : tie.Need-attempt-quick-requires
+attempt-quick-requires c κs = search needs
 
-cost-lt : (c : tie.After-attempt) → c .attempt .result .cost < 2 ^ 33
+cost-lt : (c : tie.After-attempt-quick) → c .attempt-quick .result .cost < 2 ^ 33
 cost-lt c = rw (tried-is c) (tried-cost-lt _ _ _ (sample-fits (c .before)))
 
-add-t12 : tie.Need-add-t12
-add-t12 c = omega (arith, cost-lt (c .before .before .before))
+add-t14 : tie.Need-add-t14
+add-t14 c = omega (arith, cost-lt (c .before .before .before))
 
 cast-push-code : tie.Need-cast-push-code
 cast-push-code c = search needs
@@ -55,10 +55,10 @@ pub advance-spec : {M : Type 1} → statement M
 advance-spec =
     tie.close
     (tie.spec
-    mul-attempt
-    shared-slice-copy-out-attempt
-    attempt-requires
-    add-t12
+    mul-attempt-quick
+    shared-slice-copy-out-attempt-quick
+    attempt-quick-requires
+    add-t14
     cast-push-code
     push-code-requires
     returns)

@@ -45,15 +45,15 @@ choose-requires : tie.Need-choose-requires
 choose-requires c κs =
     let g = c .before .before in
     let s = g .before in
-    (s .pre .0, rw (taken-is g) (omega (arith, many s, s .pre .1 .0), omega (arith, many s, s .pre .1 .1), g .gather .ensures .1))
+    (s .pre .0, (s .pre .1 .0, rw (taken-is g) (omega (arith, many s, s .pre .1 .1 .0), omega (arith, many s, s .pre .1 .1 .1), g .gather .ensures .1)))
 
 fill-requires : tie.Need-fill-requires
 unfolding countedOf
 fill-requires c κs =
     let h = c .before .before .before in
     let s = h .before .before .before .before in
-    let some : 0 < length (samplesOf s) = omega (arith, many s, s .pre .1 .0) in
-    (s .pre .1 .1, rw (counted-is h) (rw (many s) at (chosen-word-lt (s .args .lms) (samplesOf s) some)))
+    let some : 0 < length (samplesOf s) = omega (arith, many s, s .pre .1 .1 .0) in
+    (s .pre .1 .1 .1, rw (counted-is h) (rw (many s) at (chosen-word-lt (s .args .lms) (samplesOf s) some)))
 
 returns : tie.Need-returns
 unfolding countedOf encodedSlice

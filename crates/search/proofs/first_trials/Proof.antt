@@ -23,13 +23,13 @@ use Rattle.search.proofs.first_trials.Statement.{statement}
 use Rattle.search.proofs.first_trials.Tie as tie
 
 abbrev Inv-loop : tie.InvT-loop
-Inv-loop tab lms samples codes₀ keys₀ sf₀ codes keys sf =
+Inv-loop tab reciprocals coding lms samples codes₀ keys₀ sf₀ codes keys sf =
     (sf ≤ 16) × (length codes ≡ 16) × (length keys ≡ 16)
     × ((k : ℕ) → k < sf → getD codes k 0 ≡ tried lms (at samples 0) k .code)
     × ((k : ℕ) → k < sf → getD keys k 0 ≡ keyOf (firstCost lms (at samples 0)) k)
 
 abbrev μ-loop : tie.MeasureT-loop
-μ-loop tab lms samples codes₀ keys₀ sf₀ codes keys sf = 16 - sf
+μ-loop tab reciprocals coding lms samples codes₀ keys₀ sf₀ codes keys sf = 16 - sf
 
 loop-holds : tie.Need-loop-holds Inv-loop μ-loop
 loop-holds c = (omega arith, refl, refl, (λ k h. absurd (omega arith)), (λ k h. absurd (omega arith)))
@@ -41,14 +41,14 @@ element-copy-out-row : tie.Need-element-copy-out-row Inv-loop μ-loop
 element-copy-out-row c = omega arith
 
 shared-slice-copy-out-attempt : tie.Need-shared-slice-copy-out-attempt Inv-loop μ-loop
-shared-slice-copy-out-attempt c = c .before .before .before .pre .1
+shared-slice-copy-out-attempt c = c .before .before .before .pre .1 .0
 
 attempt-requires : tie.Need-attempt-requires Inv-loop μ-loop
 attempt-requires c κs =
     let s = c .before .before .before .before in
     let o = c .before .before .before .loop in
     let small : o .sf < 16 = omega arith in
-    (s .pre .2, small, ap (λ (t : List (List ℤ)). getD t (o .sf) []) (s .pre .0) ∙ tab-row (o .sf) small)
+    ((s .pre .1 .1, small, ap (λ (t : List (List ℤ)). getD t (o .sf) []) (s .pre .0 .0) ∙ tab-row (o .sf) small), (s .pre .0 .1, s .pre .0 .2))
 
 -- What was tried, and what it costs at most.
 tried-is : (c : tie.After-attempt Inv-loop μ-loop) → c .attempt .result ≡ tried (c .before .before .before .before .before .args .lms) (at (now (c .before .before .before .before .before .args .samples)) 0) (c .before .before .before .before .loop .sf)

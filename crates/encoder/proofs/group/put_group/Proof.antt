@@ -29,13 +29,13 @@ abbrev found : List QoaLms → List ℤ → ℕ → ℕ → ℕ → ℕ → Enco
 found states samples start count channels k = encodedSlice (lmsOf states k) (strided count samples (start + k) channels)
 
 abbrev Inv-loop : tie.InvT-loop
-Inv-loop tab channels samples start count out₀ at next₀ j₀ out next j =
+Inv-loop tab quick reciprocals coding channels samples start count out₀ at next₀ j₀ out next j =
     (j ≤ channels)
     × (next ≡ written (λ k. found next₀ samples start count channels k .lms) next₀ 0 1 j)
     × (out ≡ overlaid out₀ at (laid j (λ k. bytesOf 8 (found next₀ samples start count channels k .word))))
 
 abbrev μ-loop : tie.MeasureT-loop
-μ-loop tab channels samples start count out₀ at next₀ j₀ out next j = channels - j
+μ-loop tab quick reciprocals coding channels samples start count out₀ at next₀ j₀ out next j = channels - j
 
 loop-holds : tie.Need-loop-holds Inv-loop μ-loop
 unfolding written laid
@@ -74,16 +74,16 @@ add-encode-slice c =
     let turn = c .before in
     let l = turn .before in
     let start = l .before .before in
-    omega (arith, start .good, last-inside _ (start .args .start) (l .loop .j) (start .args .channels) (start .args .count) (start .pre .1 .0 .1) (turn .loop-test .taken) (start .pre .1 .1 .0))
+    omega (arith, start .good, last-inside _ (start .args .start) (l .loop .j) (start .args .channels) (start .args .count) (start .pre .1 .1 .0 .1) (turn .loop-test .taken) (start .pre .1 .1 .1 .0))
 
 encode-slice-requires : tie.Need-encode-slice-requires Inv-loop μ-loop
 encode-slice-requires c κs =
     let turn = c .before in
     let l = turn .before in
     let start = l .before .before in
-    let few = start .pre .1 .0 in (
-      (start .pre .0, rw (state-is l) (start .pre .1 .1 .1 .1 (l .loop .j) (turn .loop-test .taken))),
-      (few .1, few .2, last-inside _ (start .args .start) (l .loop .j) (start .args .channels) (start .args .count) (few .1) (turn .loop-test .taken) (start .pre .1 .1 .0)),
+    let few = start .pre .1 .1 .0 in (
+      (start .pre .0, rw (state-is l) (start .pre .1 .1 .1 .1 .1 (l .loop .j) (turn .loop-test .taken))),
+      (start .pre .1 .0, (few .1, few .2, last-inside _ (start .args .start) (l .loop .j) (start .args .channels) (start .args .count) (few .1) (turn .loop-test .taken) (start .pre .1 .1 .1 .0))),
     )
 
 mul-next : tie.Need-mul-next Inv-loop μ-loop

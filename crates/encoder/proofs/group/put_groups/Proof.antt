@@ -31,17 +31,30 @@ abbrev group : List QoaLms → List ℤ → ℕ → ℕ → ℕ → List ℕ
 group states samples n channels g = laid channels (λ j. bytesOf 8 (sliceWord (lmsOf states j) (strided n samples j channels) g))
 
 abbrev Inv-loop : tie.InvT-loop
-Inv-loop channels samples n out₀ at tab slices next₀ g₀ out next g =
+Inv-loop channels samples n out₀ at tab coding quick reciprocals slices next₀ g₀ out next g =
     (g ≤ slices)
     × (length next ≡ 8)
     × ((k : ℕ) → k < channels → lmsOf next k ≡ lmsBefore (lmsOf next₀ k) (strided n samples k channels) g)
     × (out ≡ overlaid out₀ at (laid g (group next₀ samples n channels)))
 
 abbrev μ-loop : tie.MeasureT-loop
-μ-loop channels samples n out₀ at tab slices next₀ g₀ out next g = slices - g
+μ-loop channels samples n out₀ at tab coding quick reciprocals slices next₀ g₀ out next g = slices - g
+
+-- the call's start, from where the tables are made
+abbrev startOf : tie.After-slices-of Inv-loop μ-loop → tie.Start Inv-loop μ-loop
+startOf c = c .before .before .before .before .before .before .before .before
 
 dequant-tab-requires : tie.Need-dequant-tab-requires Inv-loop μ-loop
 dequant-tab-requires c κs = search needs
+
+quick-codes-requires : tie.Need-quick-codes-requires Inv-loop μ-loop
+quick-codes-requires c κs = search needs
+
+quick-tab-requires : tie.Need-quick-tab-requires Inv-loop μ-loop
+quick-tab-requires c κs = search needs
+
+reciprocals-requires : tie.Need-reciprocals-requires Inv-loop μ-loop
+reciprocals-requires c κs = search needs
 
 slices-of-requires : tie.Need-slices-of-requires Inv-loop μ-loop
 slices-of-requires c κs = search needs
@@ -51,21 +64,21 @@ unfolding lmsBefore laid
 loop-holds c = (omega arith, search needs, λ k h. refl, sym (over-nil _ _))
 
 -- the group has samples, and the frame at most 256 groups
-some : (c : tie.In-loop Inv-loop μ-loop) → (20 * c .before .loop .g < c .before .before .before .before .before .args .n) × (c .before .loop .g ≤ 256)
+some : (c : tie.In-loop Inv-loop μ-loop) → (20 * c .before .loop .g < startOf (c .before .before) .args .n) × (c .before .loop .g ≤ 256)
 unfolding slicesOf
 some c =
-    let start = c .before .before .before .before .before in
+    let start = startOf (c .before .before) in
     omega (arith, c .before .before .slices-of .ensures, start .pre)
 
 -- its words have their room
 room : (c : tie.In-loop Inv-loop μ-loop) →
     let l = c .before in
-    let args = l .before .before .before .before .args in
+    let args = startOf (l .before) .args in
     args .at + 8 * (l .loop .g * args .channels) + 8 * args .channels ≤ length (args .out .now)
 unfolding slicesOf
 room c =
     let l = c .before in
-    let start = l .before .before .before .before in
+    let start = startOf (l .before) in
     let args = start .args in
     let below : l .loop .g < slicesOf (args .n) = omega (arith, l .before .slices-of .ensures) in
     words-inside (length (args .out .now)) (args .at) (args .channels) (l .loop .g) (slicesOf (args .n)) below (start .pre .1 .1 .0)
@@ -82,53 +95,57 @@ slice-len-requires c κs = search needs
 -- and its samples are there
 inside : (c : tie.After-slice-len Inv-loop μ-loop) →
     let l = c .before .before in
-    let args = l .before .before .before .before .args in
+    let args = startOf (l .before) .args in
     20 * l .loop .g * args .channels + c .slice-len .result * args .channels ≤ length (args .samples .now)
 inside c =
     let l = c .before .before in
-    let start = l .before .before .before .before in
+    let start = startOf (l .before) in
     let args = start .args in
     let few : 20 * l .loop .g + c .slice-len .result ≤ args .n = omega (arith, c .slice-len .ensures, some (c .before), min-le-right 20 (args .n - 20 * l .loop .g)) in
     group-inside (length (args .samples .now)) (args .n) (args .channels) (l .loop .g) (c .slice-len .result) few (start .pre .1 .0)
 
 -- the output is as long as it was
-long : (c : tie.At-loop Inv-loop μ-loop) → length (c .loop .out) ≡ length (c .before .before .before .before .args .out .now)
+long : (c : tie.At-loop Inv-loop μ-loop) → length (c .loop .out) ≡ length (startOf (c .before) .args .out .now)
 long c =
-    let start = c .before .before .before .before in
+    let start = startOf (c .before) in
     let args = start .args in
     let below : c .loop .g ≤ slicesOf (args .n) = omega (arith, c .before .slices-of .ensures, c .loop .inv .0) in
     let fits : args .at + args .channels * 8 * c .loop .g ≤ length (args .out .now) = words-before (length (args .out .now)) (args .at) (args .channels) (c .loop .g) (slicesOf (args .n)) below (start .pre .1 .1 .0) in
     rw (c .loop .inv .3) (length-blocks (args .channels * 8) _ (λ g. length-words (args .channels) _) (args .out .now) (args .at) (c .loop .g) fits)
 
 mul-put-group : tie.Need-mul-put-group Inv-loop μ-loop
-mul-put-group c = omega (arith, inside (c .before), c .before .before .before .before .before .before .before .good)
+mul-put-group c = omega (arith, inside (c .before .before .before .before), startOf (c .before .before .before .before .before .before .before) .good)
 
 mul-put-group-2 : tie.Need-mul-put-group-2 Inv-loop μ-loop
-mul-put-group-2 c = omega (arith, room (c .before .before .before), c .before .before .before .before .before .before .before .before .good)
+mul-put-group-2 c = omega (arith, room (c .before .before .before .before .before .before), startOf (c .before .before .before .before .before .before .before .before) .good)
 
 mul-put-group-3 : tie.Need-mul-put-group-3 Inv-loop μ-loop
-mul-put-group-3 c = omega (arith, room (c .before .before .before), c .before .before .before .before .before .before .before .before .good)
+mul-put-group-3 c = omega (arith, room (c .before .before .before .before .before .before), startOf (c .before .before .before .before .before .before .before .before) .good)
 
 add-put-group : tie.Need-add-put-group Inv-loop μ-loop
-add-put-group c = omega (arith, room (c .before .before .before), c .before .before .before .before .before .before .before .before .good)
+add-put-group c = omega (arith, room (c .before .before .before .before .before .before), startOf (c .before .before .before .before .before .before .before .before) .good)
 
 put-group-requires : tie.Need-put-group-requires Inv-loop μ-loop
 put-group-requires c κs =
-    let cut = c .before .before in
+    let cut = c .before .before .before .before .before in
     let turn = cut .before in
     let l = turn .before in
-    let start = l .before .before .before .before in
-    let args = start .args in (
-      l .before .before .dequant-tab .ensures,
+    let start = startOf (l .before) in
+    let args = start .args in
+    let tables = l .before .before .before in (
+      tables .before .before .before .before .dequant-tab .ensures,
       (
-        (start .pre .0 .1, omega (arith, cut .slice-len .ensures, some turn), omega (arith, cut .slice-len .ensures, min-le-left 20 (args .n - 20 * l .loop .g))),
+        (tables .quick-tab .ensures, l .before .before .reciprocals .ensures, tables .before .before .before .quick-codes .ensures),
         (
-          inside cut,
+          (start .pre .0 .1, omega (arith, cut .slice-len .ensures, some turn), omega (arith, cut .slice-len .ensures, min-le-left 20 (args .n - 20 * l .loop .g))),
           (
-            omega (arith, room turn, long l),
-            λ j h.
-                rw (l .loop .inv .2 j h)
-                (within-more (omega (arith, some turn)) (before-within (lmsOf (args .states) j) (strided (args .n) (args .samples .now) j (args .channels)) (l .loop .g) (omega (arith, some turn, strided-length (args .n) (args .samples .now) j (args .channels))) (start .pre .1 .1 .1 j h))),
+            inside cut,
+            (
+              omega (arith, room turn, long l),
+              λ j h.
+                  rw (l .loop .inv .2 j h)
+                  (within-more (omega (arith, some turn)) (before-within (lmsOf (args .states) j) (strided (args .n) (args .samples .now) j (args .channels)) (l .loop .g) (omega (arith, some turn, strided-length (args .n) (args .samples .now) j (args .channels))) (start .pre .1 .1 .1 j h))),
+            ),
           ),
         ),
       ),
@@ -142,14 +159,14 @@ loop-less c = omega arith
 
 -- the predictors after the group
 states-again : (c : tie.After-put-group Inv-loop μ-loop) →
-    let l = c .before .before .before .before .before in
-    let args = l .before .before .before .before .args in
+    let l = c .before .before .before .before .before .before .before .before in
+    let args = startOf (l .before) .args in
     (k : ℕ) → k < args .channels → lmsOf (c .put-group .result) k ≡ lmsBefore (lmsOf (args .states) k) (strided (args .n) (args .samples .now) k (args .channels)) (l .loop .g + 1)
 states-again c k h =
-    let cut = c .before .before .before in
+    let cut = c .before .before .before .before .before .before in
     let turn = cut .before in
     let l = turn .before in
-    let start = l .before .before .before .before in
+    let start = startOf (l .before) in
     let args = start .args in
     rw (c .put-group .ensures .0, add-one)
     (written-here _ (l .loop .next) (args .channels) k noLms h (omega (arith, l .loop .inv .1, start .pre .0 .1))
@@ -157,14 +174,14 @@ states-again c k h =
 
 -- and the group's bytes behind those before it
 bytes-again : (c : tie.After-put-group Inv-loop μ-loop) →
-    let l = c .before .before .before .before .before in
-    let args = l .before .before .before .before .args in
-    c .put-group .last .1 .1 .1 .1 .1 .1 .0 ≡ overlaid (args .out .now) (args .at) (laid (l .loop .g + 1) (group (args .states) (args .samples .now) (args .n) (args .channels)))
+    let l = c .before .before .before .before .before .before .before .before in
+    let args = startOf (l .before) .args in
+    c .put-group .last .1 .1 .1 .1 .1 .1 .1 .1 .1 .0 ≡ overlaid (args .out .now) (args .at) (laid (l .loop .g + 1) (group (args .states) (args .samples .now) (args .n) (args .channels)))
 bytes-again c =
-    let cut = c .before .before .before in
+    let cut = c .before .before .before .before .before .before in
     let turn = cut .before in
     let l = turn .before in
-    let start = l .before .before .before .before in
+    let start = startOf (l .before) in
     let args = start .args in
     let g = l .loop .g in
     c .put-group .ensures .1
@@ -180,7 +197,7 @@ bytes-again c =
 loop-again : tie.Need-loop-again Inv-loop μ-loop
 loop-again c =
     let put = c .before .before in
-    (omega arith, rw (put .put-group .ensures .0) (length-written _ _ _ _ _ ∙ put .before .before .before .before .before .loop .inv .1), states-again put, bytes-again put)
+    (omega arith, rw (put .put-group .ensures .0) (length-written _ _ _ _ _ ∙ put .before .before .before .before .before .before .before .before .loop .inv .1), states-again put, bytes-again put)
 
 same-length : tie.Need-same-length Inv-loop μ-loop
 same-length c = long (c .before)
@@ -188,7 +205,7 @@ same-length c = long (c .before)
 returns : tie.Need-returns Inv-loop μ-loop
 returns c =
     let l = c .before .loop in
-    let done : l .g ≡ slicesOf (c .before .before .before .before .before .args .n) = omega (arith, c .before .before .slices-of .ensures) in
+    let done : l .g ≡ slicesOf (startOf (c .before .before) .args .n) = omega (arith, c .before .before .slices-of .ensures) in
     (λ j h. l .inv .2 j h ∙ rw done, l .inv .3 ∙ rw done)
 
 pub put-groups-spec : {M : Type 1} → statement M
@@ -198,6 +215,9 @@ put-groups-spec =
     Inv-loop
     μ-loop
     dequant-tab-requires
+    quick-codes-requires
+    quick-tab-requires
+    reciprocals-requires
     slices-of-requires
     loop-holds
     mul-done
