@@ -8,7 +8,7 @@ use native.Mathlib.Nat.{zero-mul}
 use native.Mathlib.Omega.{arith}
 use borrow.Author.Tests.{ltb-true}
 use lib.Dec.{T, ltb, ltb→lt, nltb→le}
-use lib.IntN.{ℤ, pos, negsuc, _+ℤ_, _-ℤ_, _*ℤ_}
+use lib.IntN.{ℤ, pos, negsuc, _+ℤ_, _-ℤ_}
 use lib.ListN.{drop, getD, length, length-drop, take}
 use lib.Seq.{getD-drop, getD-take, length-take-le}
 use lib.Signed.{shrZ}
@@ -16,8 +16,8 @@ use mir.Syntax.{w32}
 use mir.Val.{toZ}
 use Rattle.wrap.proofs.Integers.{read-neg, read-pos}
 use Rattle.wrap.proofs.Linear.{add-parts, dn, minus-parts, up}
-use Rattle.wrap.specs.Wrap.{modulo, wrap32}
-use Rattle.scale.specs.Tables.{factorOf, factors, reciprocalOf, reciprocalTab, rowFor, rowOf}
+use Rattle.wrap.specs.Wrap.{modulo}
+use Rattle.scale.specs.Tables.{factorOf, factors, reciprocalOf, reciprocalTab, rowOf}
 use Rattle.scale.specs.Division.{codeFor, codes, dividedBy, placeOf, shifted, signOf}
 use Rattle.scale.specs.Quick.{halfOf, quickCodes, quickFor, quickPlace, quickRow, quickTab}
 use Rattle.scale.proofs.Table.{agree, entry, values}

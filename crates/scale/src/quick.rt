@@ -96,8 +96,8 @@ fn least(a: u32, b: u32) -> u32
     if a < b { a } else { b }
 }
 
-// The place of a residual in its half. The product plus 7 is above 15 where it is 8 and more, and far above 16 where it is -8
-// and less, since it wraps.
+// The place of a residual in its half: the shifted product plus 7 (458752 is 7 times 65536). One of 8 and more comes to 15;
+// one of -8 and less wraps to a large number, and comes to 16.
 fn place(v: i32, reciprocal: i32) -> usize
     ensures { λ r. ⌜ r ≡ quickPlace (shrZ (wrap32 (v *ℤ reciprocal +ℤ pos 32768)) (2 ^ 16)) ⌝ }
 {

@@ -49,9 +49,6 @@ unfolding countedOf
 counted lms xs p q = λ j. record { leader = p j; trials = q j }
 
 module _ {lms : QoaLms} {xs : List ℤ} {met : Best} {leader : Leader} {trials : ℕ} where
-  pub held-as : {now : Leader} {rest : List ℕ} → now ≡ leader → Held lms xs met leader trials rest → Held lms xs met now trials rest
-  held-as e h = rw e h
-
   pub held-end : Held lms xs met leader trials [] → record { leader = leader; trials = trials } ≡ countedOf lms xs
   unfolding chosen traceFrom bestAfter trialsIn
   held-end h = counted lms xs (h .shown ∙ ap (leaderOf lms) (h .same)) (omega (arith, h .total))

@@ -27,7 +27,7 @@ use Rattle.search.proofs.Bounds.{sized-room}
 use Rattle.search.proofs.Steps.{Lost, begun}
 use Rattle.search.proofs.Chosen.{trials-most}
 use Rattle.search.proofs.Keys.{Coming, coming-all, Due, due-next, due-over, next-reached, Turn, turn, Valued}
-use Rattle.search.proofs.Searching.{Held, held-start, held-as, Trying, Laid, laid-of, laid-code, laid-keys, next-small, held-end, held-break, not-tried, trying-start, trying-kept, trying-dropped, trying-done, held-lost, held-won, held-not-lower}
+use Rattle.search.proofs.Searching.{Held, held-start, Trying, Laid, laid-of, laid-code, laid-keys, next-small, held-end, held-break, not-tried, trying-start, trying-kept, trying-dropped, trying-done, held-lost, held-won, held-not-lower}
 use Rattle.search.proofs.choose.Statement.{statement}
 use Rattle.search.proofs.choose.Tie as tie
 

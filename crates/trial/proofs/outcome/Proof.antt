@@ -1,8 +1,7 @@
 -- `trial::outcome` meets its contract, by those of what it calls. No table value is beyond 14336.
 -- Assumes nothing.
 use borrow.Author.Needs.{needs}
-use mathlib.Core.Path.{_≡_, ap, ap₂, _∙_}
-use lib.IntN.{ℤ}
+use mathlib.Core.Path.{_≡_, ap, _∙_}
 use mir.Syntax.{w16, w32}
 use mir.Facts.{toZ-ofZ}
 use Rattle.wrap.proofs.Integers.{reread}

@@ -10,7 +10,7 @@ use lib.Signed.{shrZ}
 use mir.Syntax.{w32}
 use mir.Facts.{toZ-ofZ}
 use Rattle.wrap.specs.Wrap.{wrap32}
-use Rattle.wrap.proofs.Integers.{reread, returned}
+use Rattle.wrap.proofs.Integers.{returned}
 use Rattle.scale.specs.Division.{shifted}
 use Rattle.scale.specs.Quick.{halfOf, quickPlace}
 use Rattle.scale.proofs.QuickRows.{code-there, reciprocal-entry, there-lt}

@@ -13,7 +13,7 @@ use mir.Syntax.{w16, w32}
 use mir.Val.{SFits}
 use mir.Facts.{toZ-ofZ}
 use Rattle.wrap.specs.Wrap.{wrap32}
-use Rattle.wrap.proofs.Integers.{fits-of, reread, returned, widen-back, widen-fits}
+use Rattle.wrap.proofs.Integers.{fits-of, returned, widen-back, widen-fits}
 use Rattle.scale.specs.Division.{shifted}
 use Rattle.scale.specs.Quick.{halfOf, quickPlace}
 use Rattle.scale.proofs.QuickRows.{half-entry, half-le, half-long, quick-length, quick-place-lt, reciprocal-entry, value-there}
