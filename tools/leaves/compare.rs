@@ -16,6 +16,7 @@ mod rattle {
     extern "C" {
         fn leaves_qoa_div(v: i32, sf: usize) -> i32;
         fn leaves_code(quotient: i32) -> u8;
+        fn leaves_quick_code(v: i32, sf: usize) -> u8;
         fn leaves_reciprocal(sf: usize) -> i32;
         fn leaves_dequant(sf: usize, code: usize) -> i32;
         fn leaves_predict(history: &[i32; 4], weights: &[i32; 4]) -> i32;
@@ -39,6 +40,11 @@ mod rattle {
 
     pub fn code(quotient: i32) -> i32 {
         unsafe { leaves_code(quotient) as i32 }
+    }
+
+    pub fn quick_code(v: i32, sf: usize) -> i32 {
+        assert!(sf < 16);
+        unsafe { leaves_quick_code(v, sf) as i32 }
     }
 
     pub fn reciprocal(sf: usize) -> i32 {
@@ -142,11 +148,13 @@ fn division(random: &mut Random, edges: &[i32]) {
         let near = -70_000..=70_000;
         let wide: Vec<i32> = (0..100_000).map(|_| any(random, edges)).collect();
         for v in near.chain(edges.iter().copied()).chain(wide) {
-            same("qoa_div", (v, sf), source::qoa_div(v, sf), rattle::qoa_div(v, sf));
+            let quotient = source::qoa_div(v, sf);
+            same("qoa_div", (v, sf), quotient, rattle::qoa_div(v, sf));
+            same("quick_code", (v, sf), source::code(quotient), rattle::quick_code(v, sf));
             inputs += 1;
         }
     }
-    compared("qoa_div", inputs);
+    compared("qoa_div, quick_code", inputs);
 }
 
 fn codes(random: &mut Random, edges: &[i32]) {
