@@ -2,8 +2,7 @@
 ghost use mathlib.Core.Path.{_≡_};
 ghost use mathlib.Core.Bool.{_&&_};
 ghost use Prim.Native.Nat.{_≤_, _*_};
-ghost use lib.Dec.{leb, ltb};
-ghost use lib.Signed.{mag};
+ghost use lib.Dec.{leb};
 ghost use Rattle.header.specs.Format.{maxChannels};
 ghost use Rattle.state.specs.View.{view};
 ghost use Rattle.state.specs.States.{modeRule, someChannels, allShort, weightRule, weightBound, lmsRule, goodState};
@@ -76,19 +75,12 @@ fn is_good_range(next: usize, end: usize, channels: u8) -> bool
     end <= QOA_SLICE_LEN * (channels as usize)
 }
 
-// A number of 16 bits.
-fn is_short(x: i32) -> bool
-    ensures { λ r. ⌜ r ≡ ltb (mag x) 32768 ⌝ }
-{
-    if x < -32768 { false } else { x <= 32767 }
-}
-
 // Numbers of 16 bits.
 pub fn are_short(xs: [i32; 4]) -> bool
     ensures { λ r. ⌜ r ≡ allShort xs ⌝ }
 {
     for i in 0..QOA_LMS_LEN {
-        if !is_short(xs[i]) {
+        if !lms::is_short(xs[i]) {
             return false;
         }
     }
