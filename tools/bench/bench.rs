@@ -22,6 +22,12 @@ extern "C" {
     fn clock_gettime(clock: i32, time: *mut [i64; 2]) -> i32;
 }
 
+#[cfg(reference)]
+extern "C" {
+    fn reference_decode(bytes: *const u8, length: usize, out: *mut i16) -> i64;
+    fn reference_encode(channels: u32, samples: u32, from: *const i16) -> i64;
+}
+
 /// The thread's processor time in nanoseconds.
 fn now() -> i64 {
     const CLOCK_THREAD_CPUTIME_ID: i32 = 3;
@@ -37,8 +43,8 @@ fn timed(call: &mut dyn FnMut()) -> i64 {
 }
 
 /// The least time of each, called in turn.
-fn least<const N: usize>(rounds: usize, mut calls: [&mut dyn FnMut(); N]) -> [i64; N] {
-    let mut best = [i64::MAX; N];
+fn least(rounds: usize, calls: &mut [&mut dyn FnMut()]) -> Vec<i64> {
+    let mut best = vec![i64::MAX; calls.len()];
     for _ in 0..rounds {
         for (i, call) in calls.iter_mut().enumerate() {
             best[i] = best[i].min(timed(call));
@@ -71,8 +77,9 @@ const SAMPLES: usize = 400_000;
 
 fn main() {
     let rounds = std::env::args().nth(1).map_or(30, |n| n.parse().unwrap());
-    println!("| signal | channels | decode_all: source | port | ratio | into 4096: source | port | ratio | into 160: source | port | ratio | encode_all: source | port | ratio |");
-    println!("|{}", "---|".repeat(14));
+    println!("| signal | channels | decode_all: source | port | ratio | into 4096: source | port | ratio | into 160: source | port | ratio | encode_all: source | port | ratio |{}",
+        if cfg!(reference) { " C: decode | C: encode |" } else { "" });
+    println!("|{}", "---|".repeat(if cfg!(reference) { 16 } else { 14 }));
     for kind in signals::KINDS {
         for c in [1, 2, 8] {
             let n = SAMPLES / c;
@@ -83,9 +90,11 @@ fn main() {
             let mut blocks = [(); 4].map(|_| vec![0i16; n * c]);
             let [source_long, port_long, source_short, port_short] = &mut blocks;
             let mut made = vec![0u8; file.len()];
+            #[cfg(reference)]
+            let mut heard = vec![0i16; n * c];
             let times = least(
                 rounds,
-                [
+                &mut [
                     &mut || drop(black_box(qoaudio::decode_all(black_box(&file[..])).map(|a| a.samples.len()))),
                     &mut || unsafe {
                         let count = qoa_decode_all(black_box(file.as_ptr()), file.len(), out.as_mut_ptr(), out.len());
@@ -102,15 +111,26 @@ fn main() {
                         let count = qoa_encode_all(c as u8, 44100, n as u32, from, n * c, to, room);
                         assert!(count == room as i64);
                     },
+                    #[cfg(reference)]
+                    &mut || unsafe {
+                        assert!(reference_decode(black_box(file.as_ptr()), file.len(), heard.as_mut_ptr()) == (n * c) as i64);
+                    },
+                    #[cfg(reference)]
+                    &mut || unsafe {
+                        assert!(reference_encode(c as u32, n as u32, black_box(samples.as_ptr())) == file.len() as i64);
+                    },
                 ],
             );
             assert!(made == file);
+            #[cfg(reference)]
+            assert!(heard == out);
             assert!(blocks.iter().all(|b| *b == out) && out == qoaudio::decode_all(&file[..]).unwrap().samples);
             print!("| {kind} | {c} |");
-            for pair in times.chunks(2) {
-                let each = |t: i64| t as f64 / (n * c) as f64;
+            let each = |t: i64| t as f64 / (n * c) as f64;
+            for pair in times[..8].chunks(2) {
                 print!(" {:.2} | {:.2} | {:.2} |", each(pair[0]), each(pair[1]), pair[1] as f64 / pair[0] as f64);
             }
+            times[8..].iter().for_each(|t| print!(" {:.2} |", each(*t)));
             println!();
         }
     }

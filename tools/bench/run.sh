@@ -1,6 +1,7 @@
 #!/usr/bin/env bash
 # Times the library beside the Rust source in one process. Prints a table of nanoseconds per sample and of ratios.
 # An argument is the number of rounds (30 without one). Needs rt and rustc. All it makes goes to target/.
+# QOA_H=PATH/qoa.h, the reference C's header (Debian's libqoa-dev), has it timed too, compiled by cc.
 set -eu
 here=$(cd "$(dirname "$0")" && pwd -P)
 root=$(cd "$here/../.." && pwd -P)
@@ -25,6 +26,11 @@ cp -r "$root/target/obj" "$root/target/rlib" "$root/target/stamp" "$repo/target/
 (cd "$repo" && rt staticlib blocks) >"$out/blocks.log" 2>&1 || { cat "$out/blocks.log" >&2; exit 1; }
 
 rustc --edition 2021 -C opt-level=3 --crate-type rlib --crate-name qoaudio "$from" -o "$out/libqoaudio.rlib"
-rustc --edition 2021 -C opt-level=3 --extern qoaudio="$out/libqoaudio.rlib" \
+reference=()
+if [ -n "${QOA_H:-}" ]; then
+    cc -O3 -I"$(dirname "$QOA_H")" -c "$here/reference.c" -o "$out/reference.o"
+    reference=(--cfg reference -C link-arg="$out/reference.o")
+fi
+rustc --edition 2021 -C opt-level=3 --extern qoaudio="$out/libqoaudio.rlib" --check-cfg 'cfg(reference)' "${reference[@]}" \
     -C link-arg="$root/target/staticlib/libqoa.a" -C link-arg="$repo/target/staticlib/libblocks.a" "$here/bench.rs" -o "$out/bench"
 "$out/bench" "$@"
