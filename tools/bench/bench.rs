@@ -78,8 +78,8 @@ const SAMPLES: usize = 400_000;
 fn main() {
     let rounds = std::env::args().nth(1).map_or(30, |n| n.parse().unwrap());
     println!("| signal | channels | decode_all: source | port | ratio | into 4096: source | port | ratio | into 160: source | port | ratio | encode_all: source | port | ratio |{}",
-        if cfg!(reference) { " C: decode | C: encode |" } else { "" });
-    println!("|{}", "---|".repeat(if cfg!(reference) { 16 } else { 14 }));
+        if cfg!(reference) { " decode_all: C | ratio | encode_all: C | ratio |" } else { "" });
+    println!("|{}", "---|".repeat(if cfg!(reference) { 18 } else { 14 }));
     for kind in signals::KINDS {
         for c in [1, 2, 8] {
             let n = SAMPLES / c;
@@ -130,7 +130,9 @@ fn main() {
             for pair in times[..8].chunks(2) {
                 print!(" {:.2} | {:.2} | {:.2} |", each(pair[0]), each(pair[1]), pair[1] as f64 / pair[0] as f64);
             }
-            times[8..].iter().for_each(|t| print!(" {:.2} |", each(*t)));
+            for (t, source) in times[8..].iter().zip([times[0], times[6]]) {
+                print!(" {:.2} | {:.2} |", each(*t), *t as f64 / source as f64);
+            }
             println!();
         }
     }
