@@ -21,6 +21,7 @@ use Rattle.encoder.specs.Encoder.{View}
 use Rattle.encoder.specs.Frame.{afterFrame, frameBytes, frameSums}
 use Rattle.encoder.specs.Head.{headBytes}
 use Rattle.encoder.proofs.Heads.{length-head}
+use Rattle.answer.specs.Claims.{HasCutWithoutTail}
 use Rattle.answer.specs.Finished.{allGiven, framesBytes, framesSums}
 use Rattle.answer.proofs.Frames.{Taken, taken-frame, taken-heard, taken-many}
 
@@ -75,12 +76,6 @@ none-ok = tt
 
 -- ---- the file
 
--- a file that has a cut without a tail
-pub record Tailless (bytes : List ℕ) : Type 0 where
-  pub cut : Cut
-  pub is-cut : IsCut cut bytes
-  pub no-tail : cut .tail ≡ []
-
 module _ (total : ℕ) (v : View) (first : List ℤ) (others : List (List ℤ)) (a : AllTaken v (first ∷ others)) where
   abbrev bytes : List ℕ
   bytes = headBytes total ++ framesBytes v (first ∷ others)
@@ -99,8 +94,8 @@ module _ (total : ℕ) (v : View) (first : List ℤ) (others : List (List ℤ)) 
         bytes = ap (λ (b : List ℕ). headBytes total ++ b) (frames-joined v (first ∷ others));
       }
 
-  pub tailless : Tailless bytes
-  tailless = record { cut = cutFor; is-cut = in-grammar; no-tail = refl }
+  pub tailless : HasCutWithoutTail bytes
+  tailless = (cutFor, in-grammar, refl)
 
   audio : audioOf cutFor ≡ record { channels = v .channels; rate = v .rate; samples = framesSums v (first ∷ others) }
   unfolding audioOf

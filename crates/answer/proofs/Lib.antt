@@ -6,8 +6,7 @@ pub mod Frames
 pub mod Files
 pub mod Taking
 pub mod OneShots
-pub mod Finishing
 pub mod Outputs
-pub mod Examples
 pub mod Answer
 pub mod Settled
+pub mod Examples

@@ -19,8 +19,9 @@ use Rattle.encoder.specs.Frame.{afterFrame, firstWide, frameBytes, frameSums}
 use Rattle.oneshot.specs.OneShot.{Stop, before, bytesBefore, chunk, fileBytes, framesIn, framesOf, orStop, stopAt, stopIn, sumsBefore}
 use Rattle.encoder.specs.Head.{headBytes}
 use Rattle.oneshot.proofs.Files.{before-channels, before-good, chunk-long, countIn, per-chunk}
+use Rattle.answer.specs.Claims.{HasCutWithoutTail}
 use Rattle.answer.specs.Finished.{allGiven, framesBytes, framesSums}
-use Rattle.answer.proofs.Files.{AllTaken, Tailless, as-many, reads-back, tailless}
+use Rattle.answer.proofs.Files.{AllTaken, as-many, reads-back, tailless}
 use Rattle.answer.proofs.Frames.{Taken}
 use Rattle.answer.proofs.Taking.{Shot}
 
@@ -167,14 +168,14 @@ in-pieces-read : (total : ℕ) (v : View) (l : List (List ℤ)) → 0 < length l
 in-pieces-read total v [] h a = absurd (omega arith)
 in-pieces-read total v (xs ∷ more) h a = reads-back total v xs more a
 
-in-pieces-cut : (total : ℕ) (v : View) (l : List (List ℤ)) → 0 < length l → AllTaken v l → Tailless (headBytes total ++ framesBytes v l)
+in-pieces-cut : (total : ℕ) (v : View) (l : List (List ℤ)) → 0 < length l → AllTaken v l → HasCutWithoutTail (headBytes total ++ framesBytes v l)
 in-pieces-cut total v [] h a = absurd (omega arith)
 in-pieces-cut total v (xs ∷ more) h a = tailless total v xs more a
 
 some-chunks : (v : View) (samples : List ℤ) → Shot v samples → 0 < length (chunks v samples (framesOf v))
 some-chunks v samples s = rw (length-table (framesOf v) (piece v samples)) (some-frames v samples s)
 
-pub shot-tailless : (v : View) (samples : List ℤ) → Shot v samples → Tailless (fileBytes v samples)
+pub shot-tailless : (v : View) (samples : List ℤ) → Shot v samples → HasCutWithoutTail (fileBytes v samples)
 shot-tailless v samples s =
     rw (bytes-is v samples (framesOf v))
     (in-pieces-cut (v .total) v (chunks v samples (framesOf v)) (some-chunks v samples s) (chunks-taken v samples s (framesOf v) (omega arith)))

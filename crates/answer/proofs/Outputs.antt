@@ -8,7 +8,7 @@ use lib.ListN.{length, take, drop}
 use lib.Seq.{take-at}
 use Rattle.word.specs.Rules.{Rule}
 use Rattle.encoder.specs.Encoder.{View, newView, view}
-use Rattle.encoder.specs.Frame.{afterFrame, frameBytes}
+use Rattle.encoder.specs.Frame.{frameBytes}
 use Rattle.oneshot.specs.OneShot.{fileBytes, shotRules}
 use Rattle.encoder.specs.Head.{headBytes}
 use Rattle.oneshot.specs.Shots.{AllDone, ShotDone, allRules, shotMemory, shotTold}
@@ -19,7 +19,8 @@ use Rattle.encoder.specs.declared.QoaEncoder.{QoaEncoder}
 use Rattle.oneshot.proofs.Files.{file-long}
 use Rattle.encoder.proofs.Frames.{length-frame}
 use Rattle.encoder.proofs.Heads.{length-head}
-use Rattle.answer.specs.Finished.{Accepted, Finished, one-shot, from-start, bytesIn, givenIn, startIn}
+use Rattle.answer.specs.Finished.{one-shot, from-start, bytesIn, givenIn, startIn}
+use Rattle.answer.specs.Left.{FileLeft, FrameLeft}
 use Rattle.answer.proofs.Taking.{Shot, frame-passed, head-passed, shot, shot-new, shot-passed}
 
 -- ---- after an accepted call for the file header
@@ -31,11 +32,6 @@ head-left v out count told =
     rw (passed .0) (take-at bytes (drop (length bytes) out) count (length-head (v .total) ∙ passed .1))
 
 -- ---- after an accepted call for a frame
-
-pub record FrameLeft (e : QoaEncoder) (samples : List ℤ) (count : ℕ) (state : QoaEncoder) (left : List ℕ) : Type 0 where
-  pub accepted : Accepted (view e) samples
-  pub bytes : take count left ≡ frameBytes (view e) samples
-  pub next : view state ≡ afterFrame (view e) samples
 
 pub frame-left : (e : QoaEncoder) (samples : List ℤ) (out : List ℕ) (r : EncodedBytes) (left : List ℕ) (count : ℕ)
     → FrameDone e samples out r left → toldEncode (r .answer) ≡ wrote count → FrameLeft e samples count (r .state) left
@@ -53,13 +49,6 @@ frame-left e samples out r left count done tells =
     }
 
 -- ---- after an accepted one-shot call
-
--- a finished file, from the state and the samples that were given, stands in the output
-pub record FileLeft (v : View) (samples : List ℤ) (count : ℕ) (left : List ℕ) : Type 0 where
-  pub file : Finished
-  pub start : startIn file ≡ v
-  pub given : givenIn file ≡ samples
-  pub bytes : take count left ≡ bytesIn file
 
 shot-memory : (rules : List Rule) (v : View) (samples : List ℤ) (out left : List ℕ) (count : ℕ) → Shot v samples → shotTold rules v samples ≡ wrote count
     → left ≡ shotMemory rules v samples out → take count left ≡ fileBytes v samples

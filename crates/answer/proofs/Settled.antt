@@ -4,11 +4,14 @@ use Prim.Native.Nat.{ℕ}
 use mathlib.Core.Path.{_≡_, sym, _∙_}
 use mathlib.Core.List.{List}
 use denote.Ref.{RefT, now}
+use lib.Ieee.{Float}
 use lib.IntN.{ℤ}
 use lib.ListN.{length}
-use Rattle.word.specs.Rules.{after, firstOf, good}
+use Rattle.word.specs.Rules.{after, firstOf, good, _then_}
 use Rattle.header.specs.Part.{partLength, partOf, toldPart}
+use Rattle.header.specs.Refusals.{numberOf}
 use Rattle.header.specs.declared.part.PartAnswer.{PartAnswer}
+use Rattle.header.specs.declared.refusal.Refusal.{Refusal}
 use Rattle.header.proofs.Told.{told-part}
 use Rattle.state.specs.Facts.{factsAnswer, toldFacts}
 use Rattle.state.specs.Opening.{OpenLeaves, openRules, toldOpen}
@@ -51,6 +54,11 @@ use Rattle.oneshot.specs.OneShot.{needOf, needRules}
 use Rattle.oneshot.specs.Shots as O
 use Rattle.oneshot.specs.declared.need.NeedAnswer as N
 use Rattle.oneshot.proofs.Settled.{all-settled, need-settled, shot-settled}
+use Rattle.qoa.specs.Coded.{channelsIn, coded, codedEncode, codedSeconds, openedFacts, rateIn, samplesIn}
+
+-- what an equation gives is one
+same : {A : Type 0} {x r s : A} → r ≡ x → s ≡ x → r ≡ s
+same p q = p ∙ sym q
 
 -- ---- the calls on a decoder
 
@@ -79,22 +87,22 @@ pub decode-all : (bs : List ℕ) (out : List ℤ) (r s : DecodeAnswer) (x y : Li
     → (toldDecoded r ≡ summaryIn (decode (length out) bs)) × (x ≡ kept (heardIn (decode (length out) bs)) out)
     → (toldDecoded s ≡ summaryIn (decode (length out) bs)) × (y ≡ kept (heardIn (decode (length out) bs)) out)
     → (r ≡ s) × (x ≡ y)
-decode-all bs out r s x y p q = (told-decoded r s (p .0 ∙ sym (q .0)), p .1 ∙ sym (q .1))
+decode-all bs out r s x y p q = (told-decoded r s (same (p .0) (q .0)), same (p .1) (q .1))
 
 pub decode-need : (bs : List ℕ) (r s : NeedAnswer) → toldNeed r ≡ summaryIn (audioIn bs) → toldNeed s ≡ summaryIn (audioIn bs) → r ≡ s
-decode-need bs r s p q = told-need r s (p ∙ sym q)
+decode-need bs r s p q = told-need r s (same p q)
 
 pub decode-frames : (bs : List ℕ) (out : List ℤ) (r s : FramesAnswer) (x y : List ℤ)
     → (toldFrames r ≡ countIn (streamed (length out) bs)) × (x ≡ kept (streamed (length out) bs) out)
     → (toldFrames s ≡ countIn (streamed (length out) bs)) × (y ≡ kept (streamed (length out) bs) out)
     → (r ≡ s) × (x ≡ y)
-decode-frames bs out r s x y p q = (told-frames r s (p .0 ∙ sym (q .0)), p .1 ∙ sym (q .1))
+decode-frames bs out r s x y p q = (told-frames r s (same (p .0) (q .0)), same (p .1) (q .1))
 
 pub part-length : (bs : List ℕ) (at : ℕ) (r s : PartAnswer) → toldPart r ≡ partLength bs at → toldPart s ≡ partLength bs at → r ≡ s
-part-length bs at r s p q = told-part r s (p ∙ sym q)
+part-length bs at r s p q = told-part r s (same p q)
 
 pub frame-part : (bs : List ℕ) (at : ℕ) (r s : List ℕ) → r ≡ partOf (partLength bs at) bs at → s ≡ partOf (partLength bs at) bs at → r ≡ s
-frame-part bs at r s p q = p ∙ sym q
+frame-part bs at r s = same
 
 -- ---- the calls on an encoder
 
@@ -121,6 +129,11 @@ encode-all = all-settled
 
 pub encode-need : (c total : ℕ) (r s : N.NeedAnswer) → O.toldNeed r ≡ after (needRules c total) (good (needOf c total)) → O.toldNeed s ≡ after (needRules c total) (good (needOf c total)) → r ≡ s
 encode-need = need-settled
+
+-- ---- the refusal's number
+
+pub number : (refusal : Refusal) (r s : ℕ) → r ≡ numberOf refusal → s ≡ numberOf refusal → r ≡ s
+number refusal r s = same
 
 -- ---- the functions of `reader`: the bytes that a reader holds are the caller's own
 
@@ -165,8 +178,51 @@ pub reader-decode-from : (bs : List ℕ) (at : ℕ) (d : QoaDecoder) (out : List
     → (r .at ≡ s .at) × (r .done .answer ≡ s .done .answer) × (view (r .done .state) ≡ view (s .done .state)) × (x ≡ y)
 reader-decode-from = R.decode-from-settled
 
--- ---- the refusal's number, and the C functions (qoa_decode_all, qoa_decode_need, qoa_channels, qoa_rate, qoa_decode_frames, qoa_part_length, the four
--- qoa_facts_, qoa_encode_all, qoa_encode_need): each contract is one equation for the answer and one for the lent memory
+-- ---- the C functions: the answer is one number (qoa/specs/Coded)
 
-pub by-equation : {A : Type 0} (x r s : A) → r ≡ x → s ≡ x → r ≡ s
-by-equation x r s p q = p ∙ sym q
+pub qoa-decode-all : (bs : List ℕ) (out : List ℤ) (r s : ℤ) (x y : List ℤ)
+    → (r ≡ coded (samplesIn (decode (length out) bs))) × (x ≡ kept (heardIn (decode (length out) bs)) out)
+    → (s ≡ coded (samplesIn (decode (length out) bs))) × (y ≡ kept (heardIn (decode (length out) bs)) out)
+    → (r ≡ s) × (x ≡ y)
+qoa-decode-all bs out r s x y p q = (same (p .0) (q .0), same (p .1) (q .1))
+
+pub qoa-decode-need : (bs : List ℕ) (r s : ℤ) → r ≡ coded (samplesIn (audioIn bs)) → s ≡ coded (samplesIn (audioIn bs)) → r ≡ s
+qoa-decode-need bs r s = same
+
+pub qoa-channels : (bs : List ℕ) (r s : ℤ) → r ≡ coded (channelsIn (audioIn bs)) → s ≡ coded (channelsIn (audioIn bs)) → r ≡ s
+qoa-channels bs r s = same
+
+pub qoa-rate : (bs : List ℕ) (r s : ℤ) → r ≡ coded (rateIn (audioIn bs)) → s ≡ coded (rateIn (audioIn bs)) → r ≡ s
+qoa-rate bs r s = same
+
+pub qoa-decode-frames : (bs : List ℕ) (out : List ℤ) (r s : ℤ) (x y : List ℤ)
+    → (r ≡ coded (countIn (streamed (length out) bs))) × (x ≡ kept (streamed (length out) bs) out)
+    → (s ≡ coded (countIn (streamed (length out) bs))) × (y ≡ kept (streamed (length out) bs) out)
+    → (r ≡ s) × (x ≡ y)
+qoa-decode-frames bs out r s x y p q = (same (p .0) (q .0), same (p .1) (q .1))
+
+pub qoa-part-length : (bs : List ℕ) (at : ℕ) (r s : ℤ) → r ≡ coded (partLength bs at) → s ≡ coded (partLength bs at) → r ≡ s
+qoa-part-length bs at r s = same
+
+pub qoa-facts-total : (bs : List ℕ) (r s : ℤ) → r ≡ coded (openedFacts bs then λ f. good (f .total)) → s ≡ coded (openedFacts bs then λ f. good (f .total)) → r ≡ s
+qoa-facts-total bs r s = same
+
+pub qoa-facts-channels : (bs : List ℕ) (r s : ℤ) → r ≡ coded (openedFacts bs then λ f. good (f .channels)) → s ≡ coded (openedFacts bs then λ f. good (f .channels)) → r ≡ s
+qoa-facts-channels bs r s = same
+
+pub qoa-facts-rate : (bs : List ℕ) (r s : ℤ) → r ≡ coded (openedFacts bs then λ f. good (f .rate)) → s ≡ coded (openedFacts bs then λ f. good (f .rate)) → r ≡ s
+qoa-facts-rate bs r s = same
+
+pub qoa-facts-seconds : (bs : List ℕ) (r s : Float) → r ≡ codedSeconds (openedFacts bs then λ f. good (f .length)) → s ≡ codedSeconds (openedFacts bs then λ f. good (f .length)) → r ≡ s
+qoa-facts-seconds bs r s = same
+
+pub qoa-encode-all : (c rate total : ℕ) (samples : List ℤ) (out : List ℕ) (r s : ℤ) (x y : List ℕ)
+    → (r ≡ codedEncode (O.shotTold (O.allRules c rate total samples (length out)) (E.newView c rate total) samples))
+    × (x ≡ O.shotMemory (O.allRules c rate total samples (length out)) (E.newView c rate total) samples out)
+    → (s ≡ codedEncode (O.shotTold (O.allRules c rate total samples (length out)) (E.newView c rate total) samples))
+    × (y ≡ O.shotMemory (O.allRules c rate total samples (length out)) (E.newView c rate total) samples out)
+    → (r ≡ s) × (x ≡ y)
+qoa-encode-all c rate total samples out r s x y p q = (same (p .0) (q .0), same (p .1) (q .1))
+
+pub qoa-encode-need : (c total : ℕ) (r s : ℤ) → r ≡ coded (after (needRules c total) (good (needOf c total))) → s ≡ coded (after (needRules c total) (good (needOf c total))) → r ≡ s
+qoa-encode-need c total r s = same

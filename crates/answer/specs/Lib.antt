@@ -1,2 +1,4 @@
 -- What the theorems cite.
+pub mod Claims
 pub mod Finished
+pub mod Left

@@ -11,22 +11,13 @@ use Rattle.header.specs.Header.{headerAt}
 use Rattle.header.specs.Part.{lengthOf}
 use Rattle.header.specs.Grammar.{Cut, Each, joined}
 use Rattle.header.specs.declared.frame.FrameHeader.{FrameHeader}
-use Rattle.format.specs.Frame.{frameSamples}
-use Rattle.format.specs.Walk.{samplesOf}
+use Rattle.format.specs.Frame.{countOf, frameSamples}
+use Rattle.format.specs.Walk.{needOf, samplesOf}
 use Rattle.format.specs.Reader.{audioOf}
-
--- a frame's, by its header
-abbrev pub countOf : FrameHeader → ℕ
-countOf h = h .samples * h .channels
 
 pub frame-need : (f : List ℕ) → length (frameSamples f) ≡ countOf (headerAt f 0)
 unfolding frameSamples
 frame-need f = length-table (countOf (headerAt f 0)) _
-
--- over all frames
-abbrev pub needOf : List (List ℕ) → ℕ
-needOf [] = 0
-needOf (f ∷ fs) = countOf (headerAt f 0) + needOf fs
 
 pub frames-need : (fs : List (List ℕ)) → length (samplesOf fs) ≡ needOf fs
 unfolding flatMap

@@ -23,10 +23,9 @@ use Rattle.header.proofs.Predictors.{lms-drop, lms-take, read-within}
 use Rattle.slice.specs.Channel.{channelAt}
 use Rattle.slice.specs.Groups.{AllWithin, groupsAt, sliceWord}
 use Rattle.slice.proofs.Parts.{samples-drop, samples-take}
-use Rattle.format.specs.Frame.{frameSamples, frameStates}
+use Rattle.format.specs.Frame.{countOf, frameSamples, frameStates}
 use Rattle.format.specs.Walk.{frameAt}
 use Rattle.format.proofs.Frames.{header-at}
-use Rattle.format.proofs.Needs.{countOf}
 
 -- the header at the start of what is left from a place on
 pub header-here : (b : List ℕ) (at : ℕ) → headerAt (drop at b) 0 ≡ headerAt b at

@@ -7,12 +7,17 @@ use Rattle.lms.specs.declared.QoaLms.{QoaLms}
 use Rattle.header.specs.Format.{stateEnd}
 use Rattle.header.specs.Header.{headerAt}
 use Rattle.header.specs.Predictor.{lmsAt}
+use Rattle.header.specs.declared.frame.FrameHeader.{FrameHeader}
 use Rattle.slice.specs.Groups.{groupsAt}
 
 -- the predictor that the frame states for each channel
 unfoldable pub frameStates : List ℕ → List QoaLms
 frameStates f = table (headerAt f 0 .channels) (λ j. lmsAt f (8 + 16 * j))
 
+-- how many samples a frame has, by its header: n for each channel
+abbrev pub countOf : FrameHeader → ℕ
+countOf h = h .samples * h .channels
+
 -- n samples of each channel, interleaved
 unfoldable pub frameSamples : List ℕ → List ℤ
-frameSamples f = let h = headerAt f 0 in table (h .samples * h .channels) (groupsAt f (stateEnd (h .channels)) (h .channels) (frameStates f))
+frameSamples f = let h = headerAt f 0 in table (countOf h) (groupsAt f (stateEnd (h .channels)) (h .channels) (frameStates f))

@@ -1,5 +1,5 @@
 -- A walk over the frames of a list, by a reader's rules. Assumes nothing.
-use Prim.Native.Nat.{ℕ, zero, suc}
+use Prim.Native.Nat.{ℕ, zero, suc, _+_}
 use mathlib.Core.Bool.{Bool, true, false}
 use mathlib.Core.List.{List, [], _∷_, flatMap}
 use mathlib.Core.Option.{Option}
@@ -9,7 +9,7 @@ use lib.ListN.{length, take, drop}
 use Rattle.word.specs.Rules.{Answer, good, Rule, _gives_, firstOf, unless, after, _then_}
 use Rattle.header.specs.Header.{headerAt}
 use Rattle.header.specs.Part.{lengthOf}
-use Rattle.format.specs.Frame.{frameSamples}
+use Rattle.format.specs.Frame.{countOf, frameSamples}
 
 -- the frame at the start of b, and what follows it
 abbrev pub frameAt : List ℕ → List ℕ
@@ -51,6 +51,11 @@ walkOf R b = walkBy R (length b) b
 -- the samples of frames, one after another
 abbrev pub samplesOf : List (List ℕ) → List ℤ
 samplesOf fs = flatMap frameSamples fs
+
+-- how many these are, by the frames' headers
+abbrev pub needOf : List (List ℕ) → ℕ
+needOf [] = 0
+needOf (f ∷ fs) = countOf (headerAt f 0) + needOf fs
 
 -- output shorter than the exact need
 abbrev pub roomRules : ℕ → List ℤ → List Rule

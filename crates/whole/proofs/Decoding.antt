@@ -16,11 +16,11 @@ use Rattle.header.specs.Header.{headerAt}
 use Rattle.header.specs.Part.{lengthOf}
 use Rattle.header.specs.Grammar.{Each, joined}
 use Rattle.header.specs.declared.frame.FrameHeader.{FrameHeader}
-use Rattle.format.specs.Frame.{frameSamples}
+use Rattle.format.specs.Frame.{countOf, frameSamples}
 use Rattle.format.specs.Walk.{Walk, afterFrame, frameAt, samplesOf, walkOf, withFrame}
 use Rattle.format.specs.Streaming.{IsFree, freeRules}
 use Rattle.format.proofs.Frames.{Fit, free-fit, header-at}
-use Rattle.format.proofs.Needs.{countOf, frame-need}
+use Rattle.format.proofs.Needs.{frame-need}
 use Rattle.format.proofs.Places.{header-here}
 use Rattle.format.proofs.Walks.{walks}
 use Rattle.whole.specs.Told.{kept}

@@ -17,10 +17,10 @@ use Rattle.word.proofs.Tests.{tests}
 use Rattle.header.specs.Header.{headerAt}
 use Rattle.header.specs.Part.{lengthOf}
 use Rattle.header.specs.declared.frame.FrameHeader.{FrameHeader}
-use Rattle.format.specs.Frame.{frameSamples}
+use Rattle.format.specs.Frame.{countOf, frameSamples}
 use Rattle.format.specs.Walk.{Reader, Walk, afterFrame, frameAt, samplesOf, walkOf, withFrame}
 use Rattle.format.proofs.Walks.{walk-step}
-use Rattle.format.proofs.Needs.{countOf, frame-need}
+use Rattle.format.proofs.Needs.{frame-need}
 use Rattle.format.proofs.Frames.{header-at}
 use Rattle.format.proofs.Places.{header-here}
 use Rattle.whole.specs.Survey.{fitAfter, fits}

@@ -8,8 +8,8 @@ use denote.Ref.{now}
 use lib.ListN.{length, drop}
 use Rattle.word.specs.Rules.{firstOf}
 use Rattle.header.specs.Refusals.{toldChecked}
+use Rattle.format.specs.Frame.{countOf}
 use Rattle.format.proofs.Frames.{frame-eight}
-use Rattle.format.proofs.Needs.{countOf}
 use Rattle.whole.specs.Survey.{fitAfter, readerFor}
 use Rattle.whole.proofs.FrameKinds.{Whole, passed, rules-here}
 use Rattle.whole.proofs.Walking.{ended, refused-end, refused-turn, turn}
