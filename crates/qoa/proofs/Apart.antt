@@ -1,4 +1,4 @@
--- No two answers have the same code: a refusal's number is never 0, below 14 where the encoder's 14 has more to tell, and a channel fits a byte. Assumes nothing.
+-- No two answers have the same code: a refusal's number is never 0, and below 14, which has more to tell; a channel fits a byte. Assumes nothing.
 use Prim.Native.Nat.{ℕ, zero, suc, _+_, _*_, _<_}
 use mathlib.Core.Path.{_≡_, refl, sym, ap, ap₂}
 use native.Mathlib.Omega.{arith}
@@ -7,30 +7,34 @@ use Rattle.word.specs.Rules.{Answer, good, refused}
 use Rattle.encoder.specs.Calls.{Told, refuses, refuses-14, wrote}
 use Rattle.qoa.specs.Coded.{coded, codedEncode}
 
+-- the number of a refusal that tells no more than it
+abbrev pub Low : ℕ → Type 0
+Low n = (0 < n) × (n < 14)
+
 pos-one : (m n : ℕ) → pos m ≡ pos n → m ≡ n
 pos-one m n e = cc
 
-neg-one : (m n : ℕ) → negℤ (pos m) ≡ negℤ (pos n) → m ≡ n
+pub neg-one : (m n : ℕ) → negℤ (pos m) ≡ negℤ (pos n) → m ≡ n
 neg-one zero zero e = refl
 neg-one zero (suc n) e = let z : _≡_ {A = ℕ} 0 1 = cc in absurd (omega arith)
 neg-one (suc m) zero e = let z : _≡_ {A = ℕ} 0 1 = cc in absurd (omega arith)
 neg-one (suc m) (suc n) e = cc
 
 -- a count is no refusal
-pos-neg : {X : Type 0} (m n : ℕ) → 0 < n → pos m ≡ negℤ (pos n) → X
+pub pos-neg : {X : Type 0} (m n : ℕ) → 0 < n → pos m ≡ negℤ (pos n) → X
 pos-neg m zero l e = absurd (omega arith)
 pos-neg m (suc n) l e = let z : _≡_ {A = ℕ} 0 1 = cc in absurd (omega arith)
 
 -- ---- a count, or a refusal
 
 abbrev pub Named : {A : Type 0} → Answer A → Type 0
-Named (refused n) = 0 < n
+Named (refused n) = Low n
 Named (good n) = Unit {0}
 
 pub coded-one : (a b : Answer ℕ) → Named a → Named b → coded a ≡ coded b → a ≡ b
 coded-one (refused m) (refused n) p q e = ap {B = Answer ℕ} refused (neg-one m n e)
-coded-one (refused m) (good n) p q e = pos-neg n m p (sym e)
-coded-one (good m) (refused n) p q e = pos-neg m n q e
+coded-one (refused m) (good n) p q e = pos-neg n m (p .0) (sym e)
+coded-one (good m) (refused n) p q e = pos-neg m n (q .0) e
 coded-one (good m) (good n) p q e = ap {B = Answer ℕ} good (pos-one m n e)
 
 -- ---- the encoder's
@@ -41,7 +45,7 @@ wideCode bytes channel = 14 + 256 * channel + 65536 * bytes
 
 abbrev pub NamedTold : Told → Type 0
 NamedTold (wrote n) = Unit {0}
-NamedTold (refuses n) = (0 < n) × (n < 14)
+NamedTold (refuses n) = Low n
 NamedTold (refuses-14 bytes channel) = channel < 256
 
 wide-bytes : (b d i j : ℕ) → i < 256 → j < 256 → wideCode b i ≡ wideCode d j → b ≡ d

@@ -4,5 +4,6 @@ pub mod Fitting
 pub mod Opened
 pub mod Encoding
 pub mod Apart
-pub mod Naming
 pub mod Refusing
+pub mod Naming
+pub mod Seconds

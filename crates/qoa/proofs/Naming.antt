@@ -5,7 +5,6 @@ use mathlib.Core.Bool.{Bool, true, false, cond}
 use mathlib.Core.List.{List, [], _∷_}
 use mathlib.Core.Option.{Option, none, some, Option·none-ne-some}
 use native.Mathlib.Omega.{arith}
-use lib.Dec.{lit<}
 use lib.IntN.{ℤ}
 use lib.ListN.{length}
 use Rattle.word.specs.Rules.{Rule, _gives_, firstOf}
@@ -21,24 +20,20 @@ use Rattle.oneshot.specs.OneShot.{Stop, before, bytesBefore, fileNeed, framesOf
 use Rattle.oneshot.specs.Shots.{allRules, shotTold}
 use Rattle.oneshot.proofs.Ends.{shot-fits}
 use Rattle.qoa.specs.Coded.{codedEncode}
-use Rattle.qoa.proofs.Apart.{NamedTold, coded-encode-one}
+use Rattle.qoa.proofs.Apart.{Low, NamedTold, coded-encode-one}
+use Rattle.qoa.proofs.Refusing.{Numbers, low}
 
 -- ---- the numbers of the rules
 
-abbrev Low : List Rule → Type 0
-Low [] = Unit {0}
-Low ((test gives n) ∷ rules) = ((0 < n) × (n < 14)) × Low rules
-
-low-first : (l : List Rule) → Low l → (n : ℕ) → firstOf l ≡ some n → (0 < n) × (n < 14)
+low-first : (l : List Rule) → Numbers l → (n : ℕ) → firstOf l ≡ some n → Low n
 unfolding firstOf
 low-first [] low n e = absurd (Option·none-ne-some n e)
 low-first ((true gives m) ∷ l) low n e = let same : m ≡ n = cc in rw (same) at (low .0)
 low-first ((false gives m) ∷ l) low n e = low-first l (low .1) n e
 
-all-low : (c rate total : ℕ) (samples : List ℤ) (room : ℕ) → Low (allRules c rate total samples room)
+all-low : (c rate total : ℕ) (samples : List ℤ) (room : ℕ) → Numbers (allRules c rate total samples room)
 unfolding createRules shotRules
-all-low c rate total samples room =
-    ((lit< tt, lit< tt), ((lit< tt, lit< tt), ((lit< tt, lit< tt), ((lit< tt, lit< tt), ((lit< tt, lit< tt), ((lit< tt, lit< tt), ((lit< tt, lit< tt), ((lit< tt, lit< tt), tt))))))))
+all-low c rate total samples room = (low tt, (low tt, (low tt, (low tt, (low tt, (low tt, (low tt, (low tt, tt))))))))
 
 -- ---- the channel is one of the encoder's
 

@@ -1,9 +1,10 @@
--- No refusal of a call has the number 0, so that a code tells what the call told: a refusal is never taken for a count. Assumes nothing.
-use Prim.Native.Nat.{ℕ, zero, suc, _<_}
+-- The number of a call's refusal is from 1 to 13, so that a code tells what the call told: a refusal is never taken for a count. Assumes nothing.
+use Prim.Native.Nat.{ℕ, zero, suc}
 use mathlib.Core.Path.{_≡_}
-use mathlib.Core.Bool.{Bool, true, false, cond}
+use mathlib.Core.Bool.{Bool, true, false, _&&_, cond}
 use mathlib.Core.List.{List, [], _∷_, _++_}
-use lib.Dec.{lit<, ltb}
+use lib.Dec.{T, lit<, ltb}
+use lib.Ieee.Fits.{and-l, and-r}
 use lib.ListN.{drop, length, take}
 use Rattle.word.specs.Rules.{Answer, Rule, _gives_, after, firstOf, good, refused, _then_}
 use Rattle.header.specs.FileHeader.{fileRules, isFixed, totalOf}
@@ -17,14 +18,18 @@ use Rattle.format.specs.Streaming.{freeFrames, freeRules, samplesIn, streamed}
 use Rattle.format.specs.Walk.{Reader, Walk, afterFrame, ends, frameAt, step, walkBy, walkOf}
 use Rattle.oneshot.specs.OneShot.{needRules}
 use Rattle.qoa.specs.Coded.{coded, openedFacts}
-use Rattle.qoa.proofs.Apart.{Named, coded-one}
+use Rattle.qoa.proofs.Apart.{Low, Named, coded-one}
 
 -- ---- rules
 
--- no rule gives 0
-abbrev Numbers : List Rule → Type 0
+-- of literals
+pub low : {n : ℕ} → T (ltb 0 n && ltb n 14) → Low n
+low {n} t = (lit< (and-l (ltb 0 n) (ltb n 14) t), lit< (and-r (ltb 0 n) (ltb n 14) t))
+
+-- each rule gives such a number
+abbrev pub Numbers : List Rule → Type 0
 Numbers [] = Unit {0}
-Numbers ((test gives n) ∷ rules) = (0 < n) × Numbers rules
+Numbers ((test gives n) ∷ rules) = Low n × Numbers rules
 
 both : (a b : List Rule) → Numbers a → Numbers b → Numbers (a ++ b)
 both [] b p q = q
@@ -44,17 +49,17 @@ module _ {A B : Type 0} where
 
 header-numbers : (h : FrameHeader) → Numbers (headerRules h)
 unfolding headerRules
-header-numbers h = (lit< tt, (lit< tt, (lit< tt, (lit< tt, (lit< tt, (lit< tt, tt))))))
+header-numbers h = (low tt, (low tt, (low tt, (low tt, (low tt, (low tt, tt))))))
 
 cut-numbers : (whole left : ℕ) → Numbers (cutRules whole left)
-cut-numbers whole left = (lit< tt, tt)
+cut-numbers whole left = (low tt, tt)
 
 file-numbers : (bs : List ℕ) → Numbers (fileRules bs)
 unfolding fileRules
-file-numbers bs = (lit< tt, (lit< tt, (lit< tt, tt)))
+file-numbers bs = (low tt, (low tt, (low tt, tt)))
 
 same-numbers : (c r : ℕ) (h : FrameHeader) → Numbers (sameRules c r h)
-same-numbers c r h = (lit< tt, (lit< tt, tt))
+same-numbers c r h = (low tt, (low tt, tt))
 
 order-numbers : (fixed : Bool) (same state : List Rule) → Numbers same → Numbers state → Numbers (inOrder fixed same state)
 order-numbers true same state p q = both same state p q
@@ -92,9 +97,9 @@ module _ (R : Reader) (frames : (b : List ℕ) → Numbers (R .frame b)) (tails 
 named-body : (fixed : Bool) (c r : ℕ) (b : List ℕ) → Named (bodyFor fixed c r b)
 unfolding bodyFor
 named-body fixed c r b =
-    named-after _ _ (lit< tt, tt)
+    named-after _ _ (low tt, tt)
     (named-after _ _ (frame-numbers fixed c r (headerAt b 0) (length b))
-    (named-walk (wholeFile fixed c r) (λ x. frame-numbers fixed c r (headerAt x 0) (length x)) (λ n. (lit< tt, tt)) (afterFrame b)))
+    (named-walk (wholeFile fixed c r) (λ x. frame-numbers fixed c r (headerAt x 0) (length x)) (λ n. (low tt, tt)) (afterFrame b)))
 
 named-cut : (b : List ℕ) → Named (cutOf b)
 unfolding cutOf
@@ -106,11 +111,11 @@ named-cut b =
 
 pub named-audio : (b : List ℕ) → Named (audioIn b)
 unfolding audioIn
-named-audio b = named-after _ _ (lit< tt, tt) (named-then (cutOf b) _ (named-cut b) (λ k. tt))
+named-audio b = named-after _ _ (low tt, tt) (named-then (cutOf b) _ (named-cut b) (λ k. tt))
 
 pub named-decode : (room : ℕ) (b : List ℕ) → Named (decode room b)
 unfolding decode
-named-decode room b = named-then (audioIn b) _ (named-audio b) (λ a. named-after _ (good a) (lit< tt, tt) tt)
+named-decode room b = named-then (audioIn b) _ (named-audio b) (λ a. named-after _ (good a) (low tt, tt) tt)
 
 free-numbers : (h : FrameHeader) (left : ℕ) → Numbers (freeRules h left)
 unfolding freeRules
@@ -120,19 +125,19 @@ pub named-streamed : (room : ℕ) (b : List ℕ) → Named (streamed room b)
 unfolding streamed samplesIn
 named-streamed room b =
     named-then (samplesIn b) _
-    (named-then (walkOf freeFrames b) _ (named-walk freeFrames (λ x. free-numbers (headerAt x 0) (length x)) (λ n. (lit< tt, tt)) b) (λ w. tt))
-    (λ xs. named-after _ (good xs) (lit< tt, tt) tt)
+    (named-then (walkOf freeFrames b) _ (named-walk freeFrames (λ x. free-numbers (headerAt x 0) (length x)) (λ n. (low tt, tt)) b) (λ w. tt))
+    (λ xs. named-after _ (good xs) (low tt, tt) tt)
 
 pub named-part : (bs : List ℕ) (at : ℕ) → Named (partLength bs at)
 unfolding partLength goodHeader
 named-part bs at =
     named-then (goodHeader bs at) _
-    (named-after _ _ (lit< tt, tt) (named-after _ (good (headerAt bs at)) (header-numbers (headerAt bs at)) tt))
+    (named-after _ _ (low tt, tt) (named-after _ (good (headerAt bs at)) (header-numbers (headerAt bs at)) tt))
     (λ h. named-after _ (good (lengthOf h)) (cut-numbers (lengthOf h) (leftAt bs at)) tt)
 
 first-numbers : (bs : List ℕ) → Numbers (firstRules bs)
 first-numbers bs = (
-  lit< tt,
+  low tt,
   both (headerRules (headerAt bs 8)) _ (header-numbers (headerAt bs 8)) (cut-numbers (stateEnd (headerAt bs 8 .channels)) (leftAt bs 8)),
 )
 
@@ -140,14 +145,17 @@ by-mode : (fixed : Bool) (l : List Rule) → Numbers l → Numbers (cond fixed l
 by-mode true l p = p
 by-mode false l p = tt
 
+pub open-numbers : (bs : List ℕ) → Numbers (openRules bs)
+unfolding openRules
+open-numbers bs = both (fileRules bs) _ (file-numbers bs) (by-mode (isFixed (totalOf bs)) (firstRules bs) (first-numbers bs))
+
 pub named-facts : (bs : List ℕ) → Named (openedFacts bs)
-unfolding openedFacts openRules
-named-facts bs =
-    named-after (openRules bs) _ (both (fileRules bs) _ (file-numbers bs) (by-mode (isFixed (totalOf bs)) (firstRules bs) (first-numbers bs))) tt
+unfolding openedFacts
+named-facts bs = named-after (openRules bs) _ (open-numbers bs) tt
 
 pub named-need : (c total n : ℕ) → Named (after (needRules c total) (good n))
 unfolding needRules
-named-need c total n = named-after (needRules c total) (good n) (lit< tt, (lit< tt, (lit< tt, tt))) tt
+named-need c total n = named-after (needRules c total) (good n) (low tt, (low tt, (low tt, tt))) tt
 
 -- ---- what is told by a code
 
