@@ -56,7 +56,7 @@ use Rattle.oneshot.specs.declared.need.NeedAnswer as N
 use Rattle.oneshot.proofs.Settled.{all-settled, need-settled, shot-settled}
 use Rattle.qoa.specs.Coded.{channelsIn, coded, codedEncode, codedSeconds, openedFacts, rateIn, samplesIn}
 
--- what an equation gives is one
+-- two things that equal a third are equal
 same : {A : Type 0} {x r s : A} → r ≡ x → s ≡ x → r ≡ s
 same p q = p ∙ sym q
 
