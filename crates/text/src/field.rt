@@ -2,8 +2,8 @@
 ghost use mathlib.Core.Path.{_≡_};
 ghost use mathlib.Core.Bool.{true};
 ghost use Prim.Native.Nat.{_≤_};
-ghost use lib.ListN.{length};
-ghost use Rattle.text.specs.Fields.{Found};
+ghost use lib.ListN.{drop, length};
+ghost use Rattle.text.specs.Fields.{Found, fieldAt, fieldCount, fieldsFrom};
 
 // The first place from `from` on where a byte stands, or the end.
 pub fn find(text: &[u8], from: usize, byte: u8) -> usize
@@ -24,7 +24,7 @@ pub fn find(text: &[u8], from: usize, byte: u8) -> usize
 
 // Where the k-th field starts, counted from 0, or the end.
 fn start_of(text: &[u8], k: usize) -> usize
-    ensures { λ r. ⌜ r ≤ length (now (text .entry)) ⌝ }
+    ensures { λ r. ⌜ (r ≤ length (now (text .entry))) × (drop r (now (text .entry)) ≡ fieldsFrom 32 k (now (text .entry))) ⌝ }
 {
     let mut at = 0usize;
     for _i in 0..k {
@@ -38,20 +38,26 @@ fn start_of(text: &[u8], k: usize) -> usize
 }
 
 // The k-th field, or nothing.
-pub fn field(text: &[u8], k: usize) -> &[u8] {
+pub fn field(text: &[u8], k: usize) -> &[u8]
+    ensures { λ r. ⌜ now r ≡ fieldAt 32 k (now (text .entry)) ⌝ }
+{
     let from = start_of(text, k);
     let to = find(text, from, b' ');
     &text[from..to]
 }
 
 // All from the k-th field on.
-pub fn fields_from(text: &[u8], k: usize) -> &[u8] {
+pub fn fields_from(text: &[u8], k: usize) -> &[u8]
+    ensures { λ r. ⌜ now r ≡ fieldsFrom 32 k (now (text .entry)) ⌝ }
+{
     let from = start_of(text, k);
     &text[from..]
 }
 
 // How many fields there are.
-pub fn count_fields(text: &[u8]) -> usize {
+pub fn count_fields(text: &[u8]) -> usize
+    ensures { λ r. ⌜ r ≡ fieldCount 32 (now (text .entry)) ⌝ }
+{
     let mut n = 1usize;
     let mut at = find(text, 0, b' ');
     while at < text.len() {

@@ -1,6 +1,11 @@
 // Decimal numbers.
 ghost use mathlib.Core.Path.{_≡_};
-ghost use Rattle.text.specs.Numbers.{numberIn, signedIn, toldNumber};
+ghost use mathlib.Core.Bool.{_&&_};
+ghost use Prim.Native.Nat.{min};
+ghost use lib.Dec.{eqb, leb};
+ghost use lib.ListN.{getD, length};
+ghost use Rattle.word.specs.Written.{written};
+ghost use Rattle.text.specs.Numbers.{isNone, listCount, listIn, numberIn, oneIn, signedIn, toldNumber};
 use crate::field::find;
 
 pub enum NumberAnswer {
@@ -59,7 +64,9 @@ pub fn read_signed(text: &[u8]) -> NumberAnswer
 }
 
 // One number of a list.
-fn read_one(text: &[u8], signed: bool) -> NumberAnswer {
+fn read_one(text: &[u8], signed: bool) -> NumberAnswer
+    ensures { λ r. ⌜ toldNumber r ≡ oneIn signed (now (text .entry)) ⌝ }
+{
     if signed {
         read_signed(text)
     } else {
@@ -68,7 +75,9 @@ fn read_one(text: &[u8], signed: bool) -> NumberAnswer {
 }
 
 // A text that stands for nothing.
-pub fn is_none(text: &[u8]) -> bool {
+pub fn is_none(text: &[u8]) -> bool
+    ensures { λ r. ⌜ r ≡ isNone (now (text .entry)) ⌝ }
+{
     if text.len() != 1 {
         return false;
     }
@@ -76,8 +85,11 @@ pub fn is_none(text: &[u8]) -> bool {
 }
 
 // Numbers separated by commas, stored from the first entry on, or `-` for none. Answers whether the text is such a list and fits;
-// entries past the last number stay as they are.
-pub fn read_list(text: &[u8], signed: bool, out: &mut [u64]) -> bool {
+// where not, the numbers before the fault are stored. Entries past the last number stay as they are.
+pub fn read_list(text: &[u8], signed: bool, out: &mut [u64]) -> bool
+    ensures { λ r. ⌜ r ≡ eqb (length (listIn signed (now (text .entry)))) (listCount (now (text .entry))) && leb (listCount (now (text .entry))) (length (now (out .entry))) ⌝ }
+    ensures { λ _. ⌜ now (out .exit) ≡ written (λ i. getD (listIn signed (now (text .entry))) i 0) (now (out .entry)) 0 1 (min (length (listIn signed (now (text .entry)))) (length (now (out .entry)))) ⌝ }
+{
     if is_none(text) {
         return true;
     }

@@ -6,6 +6,7 @@ ghost use lib.Dec.{ltb};
 ghost use lib.ListN.{length};
 ghost use Rattle.word.specs.Written.{written};
 ghost use Rattle.text.specs.Output.{Spelled, appended, byteAt, grown};
+ghost use Rattle.text.specs.Texts.{Put, signedTexts};
 
 // Whether there is room for n bytes more.
 pub fn fits(room: usize, at: usize, n: usize) -> bool
@@ -47,7 +48,9 @@ pub fn put_number(out: &mut [u8], at: usize, n: u64) -> usize
 }
 
 // A signed decimal number.
-pub fn put_signed(out: &mut [u8], at: usize, x: i32) -> usize {
+pub fn put_signed(out: &mut [u8], at: usize, x: i32) -> usize
+    ensures { λ r. ⌜ Put (signedTexts x) at (now (out .entry)) (now (out .exit)) r ⌝ }
+{
     if x < 0 {
         let sign = put_text(out, at, b"-");
         put_number(out, sign, wrap::magnitude(x) as u64)
@@ -57,6 +60,8 @@ pub fn put_signed(out: &mut [u8], at: usize, x: i32) -> usize {
 }
 
 // The same of 16 bits.
-pub fn put_short(out: &mut [u8], at: usize, x: i16) -> usize {
+pub fn put_short(out: &mut [u8], at: usize, x: i16) -> usize
+    ensures { λ r. ⌜ Put (signedTexts x) at (now (out .entry)) (now (out .exit)) r ⌝ }
+{
     put_signed(out, at, x as i32)
 }

@@ -1,13 +1,12 @@
 -- `text::number::read_signed` meets its contract. Assumes nothing.
-use mathlib.Core.List.{List}
 use mathlib.Core.Option.{some}
-use Prim.Native.Nat.{ℕ, _-_}
-use lib.ListN.{length, take, drop, length-drop}
-use lib.Seq.{take-all}
+use Prim.Native.Nat.{_-_}
+use lib.ListN.{length, take, drop}
 use borrow.Author.Needs.{needs}
 use mathlib.Core.Path.{_≡_, ap, sym, _∙_}
 use native.Mathlib.Omega.{arith}
 use Rattle.text.specs.Numbers.{minus, numberIn, toldNumber}
+use Rattle.text.proofs.FieldLaws.{to-end}
 use Rattle.text.proofs.NumberLaws.{signed-none, signed-plain, signed-minus}
 use Rattle.text.proofs.number.read_signed.Statement.{statement}
 use Rattle.text.proofs.number.read_signed.Tie as tie
@@ -45,15 +44,11 @@ enum-known-n c = search needs
 wrapping-sub-u64-requires : tie.Need-wrapping-sub-u64-requires
 wrapping-sub-u64-requires c κs = search needs
 
--- what was read after the sign
-after-sign : (s : List ℕ) → take (length s - 1) (drop 1 s) ≡ drop 1 s
-after-sign s = take-all (length s - 1) (drop 1 s) (rw length-drop (omega arith))
-
 returns-3 : tie.Need-returns-3
 returns-3 c =
     let s = c .before .before .before .before .before .before .before .before .args .text .now in
     let told : toldNumber (c .before .before .read-number2 .result) ≡ numberIn 2147483648 (take (length s - 1) (drop 1 s)) = c .before .before .read-number2 .ensures in
-    sym (signed-minus s (omega arith) ∙ ap minus (ap (numberIn 2147483648) (sym (after-sign s)) ∙ (sym told ∙ ap toldNumber (c .enum-told .given .1))))
+    sym (signed-minus s (omega arith) ∙ ap minus (ap (numberIn 2147483648) (sym (to-end s 1)) ∙ (sym told ∙ ap toldNumber (c .enum-told .given .1))))
 
 returns-4 : tie.Need-returns-4
 returns-4 c =
@@ -61,7 +56,7 @@ returns-4 c =
     let read = c .before .before .before .before .read-number2 in
     let n = c .before .before .n .given .0 .0 in
     let told : toldNumber (read .result) ≡ numberIn 2147483648 (take (length s - 1) (drop 1 s)) = read .ensures in
-    let value : numberIn 2147483648 (drop 1 s) ≡ some n = ap (numberIn 2147483648) (sym (after-sign s)) ∙ (sym told ∙ ap toldNumber (c .before .before .n .given .1)) in
+    let value : numberIn 2147483648 (drop 1 s) ≡ some n = ap (numberIn 2147483648) (sym (to-end s 1)) ∙ (sym told ∙ ap toldNumber (c .before .before .n .given .1)) in
     sym (signed-minus s (omega arith) ∙ (ap minus value ∙ ap some (omega arith)))
 
 pub read-signed-spec : {M : Type 1} → statement M

@@ -1,7 +1,10 @@
 -- `text::put::put_short` meets its contract. Assumes nothing.
+use mathlib.Core.Path.{ap}
 use lib.Dec.{lit≤}
 use mir.Syntax.{w32}
-use Rattle.wrap.proofs.Integers.{widen-fits}
+use Rattle.wrap.proofs.Integers.{widen-back, widen-fits}
+use Rattle.text.specs.Texts.{signedTexts}
+use Rattle.text.proofs.TextLaws.{put-texts}
 use borrow.Author.Needs.{needs}
 use Rattle.text.proofs.put.put_short.Statement.{statement}
 use Rattle.text.proofs.put.put_short.Tie as tie
@@ -16,7 +19,7 @@ same-length : tie.Need-same-length
 same-length c = search needs
 
 returns : tie.Need-returns
-returns c = search needs
+returns c = put-texts (ap signedTexts (widen-back w32 (c .before .before .before .before .before .fits .x) (lit≤ tt))) (c .before .before .put-signed .ensures)
 
 pub put-short-spec : {M : Type 1} → statement M
 put-short-spec = tie.close (tie.spec cast-put-signed put-signed-requires same-length returns)
