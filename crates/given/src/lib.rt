@@ -1,4 +1,8 @@
 // The fields of a request that several verbs have: rooms, bytes, samples.
+ghost use mathlib.Core.Path.{_≡_};
+ghost use lib.ListN.{length};
+ghost use Rattle.given.specs.Counts.{bothAfter, bothIn, bothOf, bytesAfter, bytesIn, isSamples, roomIn, samplesAfter, samplesIn};
+ghost use Rattle.given.specs.declared.Given.the-variants.{Count, NoRoom};
 use text::number::NumberAnswer;
 
 // The bytes that fit.
@@ -15,7 +19,9 @@ pub enum Given {
 }
 
 // A number that is at most so much.
-pub fn room_of(word: &[u8], most: usize) -> Given {
+pub fn room_of(word: &[u8], most: usize) -> Given
+    ensures { λ r. ⌜ r ≡ roomIn most (now (word .entry)) ⌝ }
+{
     match text::number::read_number(word, u64::MAX) {
         NumberAnswer::NoNumber => Given::What,
         NumberAnswer::Number(n) => {
@@ -28,7 +34,10 @@ pub fn room_of(word: &[u8], most: usize) -> Given {
 }
 
 // Bytes, stored from the start on.
-pub fn bytes_of(word: &[u8], bytes: &mut [u8]) -> Given {
+pub fn bytes_of(word: &[u8], bytes: &mut [u8]) -> Given
+    ensures { λ r. ⌜ r ≡ bytesIn (length (now (bytes .entry))) (now (word .entry)) ⌝ }
+    ensures { λ _. ⌜ now (bytes .exit) ≡ bytesAfter (now (word .entry)) (now (bytes .entry)) ⌝ }
+{
     if text::number::is_none(word) {
         return Given::Count(0);
     }
@@ -47,7 +56,9 @@ pub fn bytes_of(word: &[u8], bytes: &mut [u8]) -> Given {
 }
 
 // Whether a word is samples.
-pub fn is_samples(word: &[u8]) -> bool {
+pub fn is_samples(word: &[u8]) -> bool
+    ensures { λ r. ⌜ r ≡ isSamples (now (word .entry)) ⌝ }
+{
     if text::number::is_none(word) {
         return true;
     }
@@ -61,7 +72,10 @@ pub fn is_samples(word: &[u8]) -> bool {
 }
 
 // Samples, stored from the start on.
-pub fn samples_of(word: &[u8], samples: &mut [i16]) -> Given {
+pub fn samples_of(word: &[u8], samples: &mut [i16]) -> Given
+    ensures { λ r. ⌜ r ≡ samplesIn (length (now (samples .entry))) (now (word .entry)) ⌝ }
+    ensures { λ _. ⌜ now (samples .exit) ≡ samplesAfter (now (word .entry)) (now (samples .entry)) ⌝ }
+{
     if text::number::is_none(word) {
         return Given::Count(0);
     }
@@ -84,7 +98,9 @@ pub enum Both {
 }
 
 // Two fields, where both are good.
-pub fn pair_of(first: Given, second: Given) -> Both {
+pub fn pair_of(first: Given, second: Given) -> Both
+    ensures { λ r. ⌜ r ≡ bothOf first second ⌝ }
+{
     match first {
         Given::What => Both::What,
         Given::NoRoom => no_room_unless(second),
@@ -92,7 +108,9 @@ pub fn pair_of(first: Given, second: Given) -> Both {
     }
 }
 
-fn with_second(first: usize, second: Given) -> Both {
+fn with_second(first: usize, second: Given) -> Both
+    ensures { λ r. ⌜ r ≡ bothOf (Count first) second ⌝ }
+{
     match second {
         Given::What => Both::What,
         Given::NoRoom => Both::NoRoom,
@@ -101,7 +119,9 @@ fn with_second(first: usize, second: Given) -> Both {
 }
 
 // Too much room is no room, where the other field is good.
-fn no_room_unless(given: Given) -> Both {
+fn no_room_unless(given: Given) -> Both
+    ensures { λ r. ⌜ r ≡ bothOf NoRoom given ⌝ }
+{
     match given {
         Given::What => Both::What,
         Given::NoRoom => Both::NoRoom,
@@ -110,7 +130,10 @@ fn no_room_unless(given: Given) -> Both {
 }
 
 // The two fields of a request: a number that is at most so much, and bytes.
-pub fn both_of(line: &[u8], most: usize, bytes: &mut [u8]) -> Both {
+pub fn both_of(line: &[u8], most: usize, bytes: &mut [u8]) -> Both
+    ensures { λ r. ⌜ r ≡ bothIn most (length (now (bytes .entry))) (now (line .entry)) ⌝ }
+    ensures { λ _. ⌜ now (bytes .exit) ≡ bothAfter (now (line .entry)) (now (bytes .entry)) ⌝ }
+{
     if text::field::count_fields(line) != 3 {
         return Both::What;
     }
