@@ -1,11 +1,14 @@
--- `reply::calls::put_length` is safe and ends: a length that was compared is no NaN. Assumes nothing.
+-- `reply::calls::put_length` meets its contract: a length that was compared is no NaN. Assumes nothing.
 use mathlib.Core.Path.{_≡_}
-use mathlib.Core.Bool.{true, false, not}
+use mathlib.Core.Bool.{Bool, true, false, not}
 use Prim.Native.Nat.{ℕ}
 use native.Mathlib.Omega.{arith}
 use lib.Dec.{T}
-use lib.Ieee.{Float, nan, inf, fin, isNan, le, lt, eq}
+use lib.Ieee.{Float, binary64, nan, inf, fin, isNan, le, lt, eq, ofBits}
 use borrow.Author.Needs.{needs}
+use Rattle.header.specs.Facts.{noLength}
+use Rattle.text.proofs.TextLaws.{put-one}
+use Rattle.reply.proofs.AnswerLaws.{length-good, length-none}
 use Rattle.reply.proofs.calls.put_length.Statement.{statement}
 use Rattle.reply.proofs.calls.put_length.Tie as tie
 
@@ -21,6 +24,11 @@ no-nan nan (fin s m k) e = absurd (no-yes e)
 no-nan (inf s) y e = tt
 no-nan (fin s m k) y e = tt
 
+-- the code's 0.0 is the definition's
+from-zero : (x : Float) {b : Bool} → le (ofBits binary64 0) x ≡ b → le noLength x ≡ b
+unfolding ofBits
+from-zero x e = e
+
 float-to-bits-put-bits : tie.Need-float-to-bits-put-bits
 float-to-bits-put-bits c = no-nan _ _ (c .before .if1 .taken)
 
@@ -31,7 +39,7 @@ same-length : tie.Need-same-length
 same-length c = search needs
 
 returns : tie.Need-returns
-returns c = search needs
+returns c = length-good (c .before .before .before .before .before .before .args .length) (from-zero _ (c .before .before .before .before .if1 .taken)) (c .before .before .put-bits .ensures)
 
 slice-aggregate-put-text : tie.Need-slice-aggregate-put-text
 slice-aggregate-put-text c = search needs
@@ -43,7 +51,7 @@ same-length-2 : tie.Need-same-length-2
 same-length-2 c = search needs
 
 returns-2 : tie.Need-returns-2
-returns-2 c = search needs
+returns-2 c = length-none (c .before .before .before .before .before .before .before .args .length) (from-zero _ (c .before .before .before .before .before .if1 .left)) (put-one (c .before .before .put-text .ensures))
 
 pub put-length-spec : {M : Type 1} → statement M
 put-length-spec =
