@@ -9,7 +9,7 @@ use native.Mathlib.Omega.{arith}
 use borrow.Author.Tests.{lt-ltb, le-ltb, ltb-true}
 use lib.Dec.{ltb}
 use lib.IntN.{ℤ, pos, negsuc, natAbs}
-use lib.ListN.{length, getD, length-append}
+use lib.ListN.{length, length-append}
 use lib.Signed.{ltZ}
 use Rattle.io.specs.Digits.{glyph, digits, Fewest}
 use Rattle.word.specs.Written.{table, written}

@@ -1,7 +1,6 @@
 -- `given::is_samples` meets its contract. Assumes nothing.
 use mathlib.Core.Path.{sym, _∙_}
 use Prim.Native.Nat.{_%_}
-use native.Mathlib.Omega.{arith}
 use borrow.Author.Tests.{eq-eqb, ne-eqb}
 use lib.ListN.{length}
 use Rattle.given.specs.Counts.{isSamples}

@@ -1,5 +1,4 @@
 -- `text::number::read_one` meets its contract. Assumes nothing.
-use mathlib.Core.Path.{ap, sym, _∙_}
 use borrow.Author.Needs.{needs}
 use Rattle.text.proofs.number.read_one.Statement.{statement}
 use Rattle.text.proofs.number.read_one.Tie as tie
