@@ -20,7 +20,7 @@ use Rattle.lms.proofs.Bounds.{within-more}
 use Rattle.header.specs.Format.{slicesOf}
 use Rattle.header.specs.Header.{headerAt, leftAt}
 use Rattle.header.specs.Predictor.{lmsOf, noLms}
-use Rattle.header.proofs.Fields.{AreBytes}
+use Rattle.word.proofs.Fields.{AreBytes}
 use Rattle.header.proofs.Headers.{passes}
 use Rattle.slice.specs.Channel.{runAfter}
 use Rattle.slice.specs.Groups.{sliceWord}

@@ -12,11 +12,10 @@ use lib.IntN.{ℤ, pos}
 use lib.ListN.{getD, length}
 use Rattle.word.specs.Rules.{Answer, good, refused, firstOf, unless}
 use Rattle.word.specs.Written.{table, written}
-use Rattle.word.proofs.Rules.{fires, good-same, none-fires}
+use Rattle.word.proofs.Rules.{fires, good-same, never, none-fires, refused-one}
 use Rattle.word.proofs.Tests.{tests}
 use Rattle.word.proofs.Writes.{written-at}
 use Rattle.header.specs.Refusals.{numberOf}
-use Rattle.header.proofs.Told.{never, refused-one}
 use Rattle.header.specs.declared.refusal.Refusal.the-variants.{BadState, Truncated}
 use Rattle.state.specs.View.{view, waiting}
 use Rattle.state.specs.States.{goodState}

@@ -1,14 +1,12 @@
 -- Each contract settles its call: what an answer tells is one-to-one, and any two answers that it permits are equal, with states of one view. Assumes nothing.
-use mathlib.Core.Path.{_≡_, ap, sym, _∙_}
+use mathlib.Core.Path.{_≡_, refl, ap, sym, _∙_}
 use mathlib.Core.List.{List}
 use mathlib.Core.Option.{Option, none, some}
 use Prim.Native.Nat.{ℕ}
 use lib.IntN.{ℤ}
 use lib.ListN.{length}
-use Rattle.word.specs.Rules.{firstOf, good}
-use Rattle.word.proofs.Rules.{good-same}
-use Rattle.header.specs.Refusals.{numberOf}
-use Rattle.header.proofs.Told.{never, number-one, refused-one}
+use Rattle.word.specs.Rules.{firstOf}
+use Rattle.header.proofs.Told.{answered, number-back, told-one}
 use Rattle.state.specs.View.{View, view}
 use Rattle.state.specs.declared.QoaDecoder.{QoaDecoder}
 use Rattle.decoder.specs.Left.{Leaves}
@@ -25,27 +23,15 @@ use Rattle.decoder.specs.declared.QoaItem as Q
 -- ---- what an answer tells
 
 pub told-into : (a b : I.IntoAnswer) → toldInto a ≡ toldInto b → a ≡ b
-told-into (I.the-variants.Count m) (I.the-variants.Count n) e = ap I.the-variants.Count (good-same m n e)
-told-into (I.the-variants.Count m) (I.the-variants.Refused s) e = never m (numberOf s) e
-told-into (I.the-variants.Refused r) (I.the-variants.Count n) e = never n (numberOf r) (sym e)
-told-into (I.the-variants.Refused r) (I.the-variants.Refused s) e = ap I.the-variants.Refused (number-one r s (refused-one (numberOf r) (numberOf s) e))
+told-into = told-one toldInto (answered I.the-variants.Count I.the-variants.Refused) (elim [ I.the-variants.Count n ↦ refl | I.the-variants.Refused r ↦ ap I.the-variants.Refused (number-back r) ])
 
 -- the code's answer for what is found
 abbrev answerFor : Found → F.FrameAnswer
 answerFor (a-frame f) = F.the-variants.Frame f
 answerFor no-frame = F.the-variants.End
 
-told-found : (x : Found) (b : F.FrameAnswer) → good x ≡ toldFrame b → answerFor x ≡ b
-told-found x (F.the-variants.Frame g) e = ap answerFor (good-same x (a-frame g) e)
-told-found x F.the-variants.End e = ap answerFor (good-same x no-frame e)
-told-found x (F.the-variants.Refused s) e = never x (numberOf s) e
-
 pub told-frame : (a b : F.FrameAnswer) → toldFrame a ≡ toldFrame b → a ≡ b
-told-frame (F.the-variants.Frame f) b e = told-found (a-frame f) b e
-told-frame F.the-variants.End b e = told-found no-frame b e
-told-frame (F.the-variants.Refused r) (F.the-variants.Frame g) e = never (a-frame g) (numberOf r) (sym e)
-told-frame (F.the-variants.Refused r) F.the-variants.End e = never no-frame (numberOf r) (sym e)
-told-frame (F.the-variants.Refused r) (F.the-variants.Refused s) e = ap F.the-variants.Refused (number-one r s (refused-one (numberOf r) (numberOf s) e))
+told-frame = told-one toldFrame (answered answerFor F.the-variants.Refused) (elim [ F.the-variants.Frame f ↦ refl | F.the-variants.End ↦ refl | F.the-variants.Refused r ↦ ap F.the-variants.Refused (number-back r) ])
 
 -- the code's item for what is given
 abbrev codeFor : Item → Q.QoaItem
@@ -53,20 +39,8 @@ codeFor (a-header f) = Q.the-variants.Header f
 codeFor (a-sample x) = Q.the-variants.Sample x
 codeFor no-item = Q.the-variants.End
 
-told-good : (i : Item) (b : Q.QoaItem) → good i ≡ toldItem b → codeFor i ≡ b
-told-good i (Q.the-variants.Header f) e = ap codeFor (good-same i (a-header f) e)
-told-good i (Q.the-variants.Sample x) e = ap codeFor (good-same i (a-sample x) e)
-told-good i Q.the-variants.End e = ap codeFor (good-same i no-item e)
-told-good i (Q.the-variants.Refused r) e = never i (numberOf r) e
-
 pub told-item : (a b : Q.QoaItem) → toldItem a ≡ toldItem b → a ≡ b
-told-item (Q.the-variants.Header f) b e = told-good (a-header f) b e
-told-item (Q.the-variants.Sample x) b e = told-good (a-sample x) b e
-told-item Q.the-variants.End b e = told-good no-item b e
-told-item (Q.the-variants.Refused r) (Q.the-variants.Header f) e = never (a-header f) (numberOf r) (sym e)
-told-item (Q.the-variants.Refused r) (Q.the-variants.Sample x) e = never (a-sample x) (numberOf r) (sym e)
-told-item (Q.the-variants.Refused r) Q.the-variants.End e = never no-item (numberOf r) (sym e)
-told-item (Q.the-variants.Refused r) (Q.the-variants.Refused s) e = ap Q.the-variants.Refused (number-one r s (refused-one (numberOf r) (numberOf s) e))
+told-item = told-one toldItem (answered codeFor Q.the-variants.Refused) (elim [ Q.the-variants.Header f ↦ refl | Q.the-variants.Sample x ↦ refl | Q.the-variants.End ↦ refl | Q.the-variants.Refused r ↦ ap Q.the-variants.Refused (number-back r) ])
 
 -- ---- the calls
 

@@ -15,7 +15,7 @@ use Rattle.header.specs.FileHeader.{magic}
 use Rattle.header.specs.Format.{slicesOf}
 use Rattle.header.specs.Header.{headerWord}
 use Rattle.header.specs.Predictor.{fourWord, lmsOf}
-use Rattle.header.proofs.Fields.{AreBytes, are-bytes}
+use Rattle.word.proofs.Fields.{AreBytes, are-bytes}
 use Rattle.search.proofs.Slices.{encoded-word-lt}
 use Rattle.encoder.specs.Encoder.{View}
 use Rattle.encoder.specs.Channel.{lmsBefore, slicePart, sliceWord}

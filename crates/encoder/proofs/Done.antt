@@ -1,6 +1,6 @@
 -- What a call did, from the facts of its run: one law for each way that it ends. Assumes nothing.
 use Prim.Native.Nat.{ℕ, zero, suc, _*_, _≤_, _<_}
-use mathlib.Core.Path.{_≡_, refl, ap, sym, _∙_}
+use mathlib.Core.Path.{_≡_, refl, sym, _∙_}
 use mathlib.Core.Bool.{Bool, true, false, not}
 use mathlib.Core.List.{List, _∷_}
 use mathlib.Core.Option.{Option, none, some}
@@ -9,11 +9,10 @@ use native.Mathlib.Omega.{arith}
 use lib.Dec.{T}
 use lib.IntN.{ℤ}
 use lib.ListN.{length}
-use Rattle.word.specs.Rules.{good, refused, Rule, _gives_, firstOf, unless}
-use Rattle.word.proofs.Rules.{quiet, unless-good}
+use Rattle.word.specs.Rules.{good, refused, Rule, _gives_, firstOf}
+use Rattle.word.proofs.Rules.{after-refused, quiet, unless-good}
 use Rattle.word.proofs.Tests.{nnot, tests}
 use Rattle.header.specs.Format.{frameLength, maxChannels, mostRate}
-use Rattle.header.proofs.Told.{never, refused-one}
 use Rattle.encoder.specs.Encoder.{View, view, createRules, goodEncoder, newView, toldCreate, zeroEncoder}
 use Rattle.encoder.specs.Frame.{afterFrame, firstWide, frameBytes, frameRules, perChannel}
 use Rattle.encoder.specs.Head.{headBytes, headRules}
@@ -34,17 +33,13 @@ module _ (c rate total : ℕ) (r : CreatedEncoder) where
   created e t s = record { told = rw e t; made = rw e s }
 
 -- and what it tells of the rules
-unless-refused : (o : Option ℕ) (n : ℕ) → unless {A = Unit {0}} o (good tt) ≡ refused n → o ≡ some n
-unless-refused none n e = never tt n e
-unless-refused (some m) n e = ap {B = Option ℕ} some (refused-one m n e)
-
 made-new : (o : Option ℕ) (v : View) (s : QoaEncoder) → o ≡ none → NewState o v s → view s ≡ v
 made-new none v s e m = m
 made-new (some n) v s e m = let z : _≡_ {A = ℕ} 0 1 = cc in absurd (omega arith)
 
 module _ (c rate total : ℕ) (r : CreatedEncoder) (d : CreateDone c rate total r) where
   pub was-refused : (n : ℕ) → toldCreate (r .answer) ≡ refused n → firstOf (createRules c rate total) ≡ some n
-  was-refused n e = unless-refused (firstOf (createRules c rate total)) n (sym (d .told) ∙ e)
+  was-refused n e = after-refused (createRules c rate total) tt n (sym (d .told) ∙ e)
 
   pub was-created : toldCreate (r .answer) ≡ good tt → (firstOf (createRules c rate total) ≡ none) × (view (r .state) ≡ newView c rate total)
   was-created e =

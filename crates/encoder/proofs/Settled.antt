@@ -1,15 +1,13 @@
 -- Each public contract settles its call: what an answer tells is one-to-one, and any two answers that a contract permits are equal, with states of one view.
 -- Assumes nothing.
 use Prim.Native.Nat.{ℕ}
-use mathlib.Core.Path.{_≡_, refl, sym, ap, ap₂, _∙_}
+use mathlib.Core.Path.{_≡_, refl, sym, ap, _∙_}
 use mathlib.Core.List.{List}
 use mathlib.Core.Option.{Option, none, some}
-use native.Mathlib.Omega.{arith}
 use lib.IntN.{ℤ}
 use lib.ListN.{length}
 use Rattle.word.specs.Rules.{firstOf}
-use Rattle.header.specs.Refusals.{numberOf}
-use Rattle.header.proofs.Told.{never, number-one, refused-one}
+use Rattle.header.proofs.Told.{answered, by-number, number-back, told-one}
 use Rattle.encoder.specs.Encoder.{View, view, createRules, newView, toldCreate}
 use Rattle.encoder.specs.Frame.{afterFrame}
 use Rattle.encoder.specs.Calls.{CreateDone, FrameDone, HandsBack, NewState, Told, frameTold, headMemory, headTold, refuses, refuses-14, toldEncode, wrote}
@@ -22,42 +20,16 @@ use Rattle.encoder.specs.declared.QoaEncoder.{QoaEncoder}
 -- ---- what is told is one-to-one
 
 pub told-create : (a b : C.CreateAnswer) → toldCreate a ≡ toldCreate b → a ≡ b
-told-create C.the-variants.Created C.the-variants.Created e = refl
-told-create C.the-variants.Created (C.the-variants.Refused s) e = never tt (numberOf s) e
-told-create (C.the-variants.Refused r) C.the-variants.Created e = never tt (numberOf r) (sym e)
-told-create (C.the-variants.Refused r) (C.the-variants.Refused s) e = ap C.the-variants.Refused (number-one r s (refused-one (numberOf r) (numberOf s) e))
+told-create = told-one toldCreate (answered (λ _. C.the-variants.Created) C.the-variants.Refused) (elim [ C.the-variants.Created ↦ refl | C.the-variants.Refused r ↦ ap C.the-variants.Refused (number-back r) ])
 
-wrote-one : (m n : ℕ) → wrote m ≡ wrote n → m ≡ n
-wrote-one m n e = cc
-
-refuses-one : (m n : ℕ) → refuses m ≡ refuses n → m ≡ n
-refuses-one m n e = cc
-
-count-one : (m n i j : ℕ) → refuses-14 m i ≡ refuses-14 n j → m ≡ n
-count-one m n i j e = cc
-
-channel-one : (m n i j : ℕ) → refuses-14 m i ≡ refuses-14 n j → i ≡ j
-channel-one m n i j e = cc
-
-wrote-refuses : {X : Type 0} (m n : ℕ) → wrote m ≡ refuses n → X
-wrote-refuses m n e = let z : _≡_ {A = ℕ} 0 1 = cc in absurd (omega arith)
-
-wrote-14 : {X : Type 0} (m n j : ℕ) → wrote m ≡ refuses-14 n j → X
-wrote-14 m n j e = let z : _≡_ {A = ℕ} 0 1 = cc in absurd (omega arith)
-
-refuses-not-14 : {X : Type 0} (m n j : ℕ) → refuses m ≡ refuses-14 n j → X
-refuses-not-14 m n j e = let z : _≡_ {A = ℕ} 0 1 = cc in absurd (omega arith)
+-- the code's answer for what is told
+abbrev answerFor : Told → E.EncodeAnswer
+answerFor (wrote n) = E.the-variants.Written n
+answerFor (refuses n) = E.the-variants.Refused (by-number n)
+answerFor (refuses-14 n j) = E.the-variants.WeightRange n j
 
 pub told-encode : (a b : E.EncodeAnswer) → toldEncode a ≡ toldEncode b → a ≡ b
-told-encode (E.the-variants.Written m) (E.the-variants.Written n) e = ap E.the-variants.Written (wrote-one m n e)
-told-encode (E.the-variants.Written m) (E.the-variants.Refused s) e = wrote-refuses m (numberOf s) e
-told-encode (E.the-variants.Written m) (E.the-variants.WeightRange n j) e = wrote-14 m n j e
-told-encode (E.the-variants.Refused r) (E.the-variants.Written n) e = wrote-refuses n (numberOf r) (sym e)
-told-encode (E.the-variants.Refused r) (E.the-variants.Refused s) e = ap E.the-variants.Refused (number-one r s (refuses-one (numberOf r) (numberOf s) e))
-told-encode (E.the-variants.Refused r) (E.the-variants.WeightRange n j) e = refuses-not-14 (numberOf r) n j e
-told-encode (E.the-variants.WeightRange m i) (E.the-variants.Written n) e = wrote-14 n m i (sym e)
-told-encode (E.the-variants.WeightRange m i) (E.the-variants.Refused s) e = refuses-not-14 (numberOf s) m i (sym e)
-told-encode (E.the-variants.WeightRange m i) (E.the-variants.WeightRange n j) e = ap₂ E.the-variants.WeightRange (count-one m n i j e) (channel-one m n i j e)
+told-encode = told-one toldEncode answerFor (elim [ E.the-variants.Written n ↦ refl | E.the-variants.Refused r ↦ ap E.the-variants.Refused (number-back r) | E.the-variants.WeightRange n j ↦ refl ])
 
 -- ---- new_encoder
 

@@ -18,7 +18,7 @@ use Rattle.header.specs.Part.{lengthOf}
 use Rattle.header.specs.Predictor.{lmsAt, lmsOf, noLms}
 use Rattle.header.specs.declared.frame.FrameHeader.{FrameHeader}
 use Rattle.header.proofs.Headers.{header-drop}
-use Rattle.header.proofs.Fields.{AreBytes}
+use Rattle.word.proofs.Fields.{AreBytes}
 use Rattle.header.proofs.Predictors.{lms-drop, lms-take, read-within}
 use Rattle.slice.specs.Channel.{channelAt}
 use Rattle.slice.specs.Groups.{AllWithin, groupsAt, sliceWord}

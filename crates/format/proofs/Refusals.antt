@@ -1,15 +1,15 @@
 -- When whole-file decoding gives refusals 9, 2 and 7: exactly when the table says. Assumes nothing.
 use Prim.Native.Nat.{ℕ, zero, suc, _≤_, _<_}
-use mathlib.Core.Path.{_≡_, refl, ap}
+use mathlib.Core.Path.{_≡_, refl}
 use mathlib.Core.Logic.{_≢_, _↔_, _⊎_, inl, inr, ⊎-elim}
 use mathlib.Core.Bool.{Bool, true, false}
 use mathlib.Core.List.{List, [], _∷_, _++_}
-use mathlib.Core.Option.{Option, none, some, Option·none-ne-some, Option·some-injective}
+use mathlib.Core.Option.{none, some, Option·none-ne-some, Option·some-injective}
 use native.Mathlib.Omega.{arith}
 use lib.Dec.{T, ltb, ltb→lt}
 use lib.ListN.{length, take, drop}
-use Rattle.word.specs.Rules.{Answer, refused, good, Rule, _gives_, firstOf, unless, after, _then_}
-use Rattle.word.proofs.Rules.{quiet, fires, none-fires}
+use Rattle.word.specs.Rules.{Answer, refused, good, Rule, _gives_, firstOf, after, _then_}
+use Rattle.word.proofs.Rules.{after-refused, fires, never, none-fires, quiet, then-refused, unless-refused}
 use Rattle.word.proofs.Tests.{tests}
 use Rattle.header.specs.Format.{mostBytes, stateEnd}
 use Rattle.header.specs.FileHeader.{fileRules, isFixed, totalOf}
@@ -17,7 +17,6 @@ use Rattle.header.specs.Header.{headerAt, headerRules}
 use Rattle.header.specs.Part.{cutRules, lengthOf}
 use Rattle.header.specs.Grammar.{Cut, IsCut}
 use Rattle.header.specs.declared.frame.FrameHeader.{FrameHeader}
-use Rattle.header.proofs.Told.{never, refused-one}
 use Rattle.format.specs.Walk.{Walk, afterFrame, ends, frameAt, roomRules, step, walkBy, walkOf, withFrame}
 use Rattle.format.specs.Reader.{Audio, audioIn, audioOf, body, bodyFor, cutOf, decode, frameRules, inOrder, longRules, otherRules, rulesAt, sameRules, someRules, tailRules, wholeFile, withFirst, withRoom}
 use Rattle.format.proofs.Accepted.{HeadGood, head-good, quiet-head}
@@ -39,15 +38,6 @@ module _ (P : ℕ → Type 0) where
   give-both [] b p q = q
   give-both ((t gives n) ∷ a) b p q = (p .0, give-both a b (p .1) q)
 
-unless-refused : {A : Type 0} (o : Option ℕ) (a : Answer A) (n : ℕ) → unless o a ≡ refused n → (o ≡ some n) ⊎ ((o ≡ none) × (a ≡ refused n))
-unless-refused none a n e = inr (refl, e)
-unless-refused (some m) a n e = inl (ap {B = Option ℕ} some (refused-one m n e))
-
-then-refused : {A B : Type 0} (a : Answer A) (f : A → Answer B) (n : ℕ) → (a then f) ≡ refused n
-    → (a ≡ refused n) ⊎ ((y : A) × (a ≡ good y) × (f y ≡ refused n))
-then-refused (refused m) f n e = inl (ap (λ (k : ℕ). refused k) (refused-one m n e))
-then-refused (good y) f n e = inr (y, refl, e)
-
 -- a frame gives 3, 4, 5 or 6, and so does a walk
 module _ (P : ℕ → Type 0) (three : P 3) (four : P 4) (five : P 5) (six : P 6) where
   header-gives : (h : FrameHeader) → Give P (headerRules h)
@@ -68,7 +58,7 @@ module _ (P : ℕ → Type 0) (three : P 3) (four : P 4) (five : P 5) (six : P 6
 
   module _ (fixed : Bool) (c r : ℕ) where
     ends-gives : (b : List ℕ) (n : ℕ) → ends (wholeFile fixed c r) b ≡ refused n → P n
-    ends-gives b n e = ⊎-elim (λ f. given P (tailRules (length b)) n f (five, tt)) (λ q. never _ n (q .1)) (unless-refused (firstOf (tailRules (length b))) (good (record { frames = []; tail = b })) n e)
+    ends-gives b n e = given P (tailRules (length b)) n (after-refused (tailRules (length b)) (record { frames = []; tail = b }) n e) (five, tt)
 
     walk-by-gives : (fuel : ℕ) (b : List ℕ) (n : ℕ) → walkBy (wholeFile fixed c r) fuel b ≡ refused n → P n
     unfolding walkBy
@@ -145,7 +135,7 @@ module _ (room : ℕ) (b : List ℕ) where
   room-from : (n : ℕ) (a : Audio) → audioIn b ≡ good a → withRoom room a ≡ refused n → NoRoom n
   room-from n a e f =
       let h = holds b a e in
-      let fired = ⊎-elim (λ f. single _ 7 n f) (λ z. never _ n (z .1)) (unless-refused (firstOf (roomRules room (a .samples))) (good a) n f) in
+      let fired = single _ 7 n (after-refused (roomRules room (a .samples)) a n f) in
       let less : room < length (a .samples) = ltb→lt room (length (a .samples)) (fired .0) in
       (fired .1, h .few-bytes, h .cut, h .is-cut, rw (h .audio) at less)
 

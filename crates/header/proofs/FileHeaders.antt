@@ -7,11 +7,10 @@ use lib.ListN.{length}
 use Rattle.word.specs.Rules.{Answer, good, refused}
 use Rattle.word.specs.Bytes.{be32, be64}
 use Rattle.word.proofs.BytesLaws.{be-lt-bits, be-join}
-use Rattle.word.proofs.Rules.{FiresAt, Quiet, after-good, good-after, good-same}
+use Rattle.word.proofs.Rules.{FiresAt, Quiet, after-good, good-after, good-same, refused-at}
 use Rattle.word.proofs.Tests.{tests}
 use Rattle.header.specs.FileHeader.{magic, totalOf, fileRules, fileHeader, fileWord}
-use Rattle.header.proofs.Told.{refused-at}
-use Rattle.header.proofs.Fields.{AreBytes, Stored, stored-field}
+use Rattle.word.proofs.Fields.{AreBytes, Stored, stored-field}
 
 -- the upper and the lower half of the word of 8 bytes
 pub magic-of : (bs : List ℕ) → AreBytes bs → be64 bs 0 / 2 ^ 32 ≡ be32 bs 0

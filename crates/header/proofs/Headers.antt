@@ -10,14 +10,13 @@ use lib.Seq.{getD-take, getD-drop, getD-append-add}
 use Rattle.word.specs.Rules.{Answer, good, refused, firstOf, after}
 use Rattle.word.specs.Bytes.{be, be64, bytesOf, put}
 use Rattle.word.proofs.BytesLaws.{be-ext, be-lt-bits, byte-at, length-bytes, put-at}
-use Rattle.word.proofs.Rules.{Quiet, after-good, good-after, good-same}
+use Rattle.word.proofs.Rules.{Quiet, after-good, good-after, good-same, refused-at}
 use Rattle.word.proofs.Tests.{tests}
 use Rattle.header.specs.Format.{slicesOf, stateEnd, frameLength}
 use Rattle.header.specs.Header.{headerAt, headerFields, headerWord, headerRules, shortRules, leftAt, goodHeader}
 use Rattle.header.specs.Grammar.{Passes}
 use Rattle.header.specs.declared.frame.FrameHeader.{FrameHeader}
-use Rattle.header.proofs.Told.{refused-at}
-use Rattle.header.proofs.Fields.{AreBytes, Stored, be-field, stored-field}
+use Rattle.word.proofs.Fields.{AreBytes, Stored, be-field, stored-field}
 
 -- ---- where a header is read: it is that of its 8 bytes
 

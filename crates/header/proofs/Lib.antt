@@ -1,5 +1,5 @@
 -- What the proofs of this crate and of those above it cite.
-pub mod Fields
+pub use Rattle.word.proofs.Fields
 pub mod Told
 pub mod Headers
 pub mod FileHeaders

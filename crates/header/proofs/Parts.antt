@@ -5,14 +5,13 @@ use mathlib.Core.List.{List}
 use native.Mathlib.Omega.{arith}
 use lib.ListN.{length}
 use Rattle.word.specs.Rules.{Answer, good, refused, after}
-use Rattle.word.proofs.Rules.{Quiet, after-good, good-after, then-good, good-same}
+use Rattle.word.proofs.Rules.{Quiet, after-good, good-after, then-good, good-same, refused-at}
 use Rattle.word.proofs.Tests.{tests}
 use Rattle.header.specs.Format.{stateEnd}
 use Rattle.header.specs.Header.{headerAt, goodHeader, leftAt}
 use Rattle.header.specs.Part.{cutRules, lengthOf, partLength}
 use Rattle.header.specs.Grammar.{Passes}
 use Rattle.header.specs.declared.frame.FrameHeader.{FrameHeader}
-use Rattle.header.proofs.Told.{refused-at}
 use Rattle.header.proofs.Headers.{header-good, good-header, frame-long}
 
 -- a whole good frame of n bytes stands at a place

@@ -2,11 +2,10 @@
 use Prim.Native.Nat.{ℕ, _<_}
 use mathlib.Core.Path.{_≡_, refl, sym, ap, _∙_}
 use mathlib.Core.List.{List, [], _∷_}
-use native.Mathlib.Omega.{arith}
+use mathlib.Core.Option.{none, some}
 use lib.Dec.{lit<}
 use lib.ListN.{getD}
-use Rattle.word.specs.Rules.{Answer, good, refused, Rule, after}
-use Rattle.word.proofs.Rules.{FiresAt, fires, good-same}
+use Rattle.word.specs.Rules.{Answer, good, refused}
 use Rattle.header.specs.Refusals.{numberOf, toldChecked}
 use Rattle.header.specs.FileHeader.{toldFile}
 use Rattle.header.specs.Header.{toldHeader}
@@ -24,10 +23,10 @@ refusals =
     NotQoaFile ∷ NotQoaFile ∷ NoSamples ∷ InvalidFrameHeader ∷ IncompatibleFrame ∷ Truncated ∷ TooManyChannels ∷ OutputTooSmall
     ∷ BadState ∷ InputTooLong ∷ NotQoaFile ∷ InvalidChannels ∷ InvalidSampleRate ∷ InvalidSamples ∷ WeightRange ∷ []
 
-by-number : ℕ → Refusal
+pub by-number : ℕ → Refusal
 by-number n = getD refusals n NotQoaFile
 
-number-back : (r : Refusal) → by-number (numberOf r) ≡ r
+pub number-back : (r : Refusal) → by-number (numberOf r) ≡ r
 unfolding by-number refusals
 number-back NotQoaFile = refl
 number-back NoSamples = refl
@@ -42,9 +41,6 @@ number-back InvalidChannels = refl
 number-back InvalidSampleRate = refl
 number-back InvalidSamples = refl
 number-back WeightRange = refl
-
-pub number-one : (a b : Refusal) → numberOf a ≡ numberOf b → a ≡ b
-number-one a b e = sym (number-back a) ∙ ap by-number e ∙ number-back b
 
 pub number-some : (r : Refusal) → 0 < numberOf r
 number-some NotQoaFile = lit< tt
@@ -61,37 +57,23 @@ number-some InvalidSampleRate = lit< tt
 number-some InvalidSamples = lit< tt
 number-some WeightRange = lit< tt
 
-module _ {A : Type 0} where
-  -- the first rule that fires decides
-  pub refused-at : (i : ℕ) (l : List Rule) (n : ℕ) (a : Answer A) → FiresAt i l n → after l a ≡ refused n
-  refused-at i l n a f = rw (fires i l n f)
+-- where what is told makes the answer again, it is told one-to-one
+pub told-one : {A B : Type 0} (told : B → A) (back : A → B) → ((b : B) → back (told b) ≡ b) → (a b : B) → told a ≡ told b → a ≡ b
+told-one told back undone a b e = sym (undone a) ∙ ap back e ∙ undone b
 
-  pub refused-one : (m n : ℕ) → _≡_ {A = Answer A} (refused m) (refused n) → m ≡ n
-  refused-one m n e = cc
-
-  pub never : {X : Type 0} (x : A) (n : ℕ) → good x ≡ refused n → X
-  never x n e = let z : _≡_ {A = ℕ} 0 1 = cc in absurd (omega arith)
+-- the answer that tells a value, or a refusal's number
+abbrev pub answered : {A B : Type 0} → (A → B) → (Refusal → B) → Answer A → B
+answered value refusal (good x) = value x
+answered value refusal (refused n) = refusal (by-number n)
 
 pub told-checked : (a b : C.Checked) → toldChecked a ≡ toldChecked b → a ≡ b
-told-checked C.the-variants.Passed C.the-variants.Passed e = refl
-told-checked C.the-variants.Passed (C.the-variants.Refused s) e = let z : _≡_ {A = ℕ} 0 1 = cc in absurd (omega arith)
-told-checked (C.the-variants.Refused r) C.the-variants.Passed e = let z : _≡_ {A = ℕ} 0 1 = cc in absurd (omega arith)
-told-checked (C.the-variants.Refused r) (C.the-variants.Refused s) e = ap C.the-variants.Refused (number-one r s (cc))
+told-checked = told-one toldChecked (elim [ none ↦ C.the-variants.Passed | some n ↦ C.the-variants.Refused (by-number n) ]) (elim [ C.the-variants.Passed ↦ refl | C.the-variants.Refused r ↦ ap C.the-variants.Refused (number-back r) ])
 
 pub told-file : (a b : F.FileAnswer) → toldFile a ≡ toldFile b → a ≡ b
-told-file (F.the-variants.Total m) (F.the-variants.Total n) e = ap F.the-variants.Total (good-same m n e)
-told-file (F.the-variants.Total m) (F.the-variants.Refused s) e = never m (numberOf s) e
-told-file (F.the-variants.Refused r) (F.the-variants.Total n) e = never n (numberOf r) (sym e)
-told-file (F.the-variants.Refused r) (F.the-variants.Refused s) e = ap F.the-variants.Refused (number-one r s (refused-one (numberOf r) (numberOf s) e))
+told-file = told-one toldFile (answered F.the-variants.Total F.the-variants.Refused) (elim [ F.the-variants.Total n ↦ refl | F.the-variants.Refused r ↦ ap F.the-variants.Refused (number-back r) ])
 
 pub told-header : (a b : H.HeaderAnswer) → toldHeader a ≡ toldHeader b → a ≡ b
-told-header (H.the-variants.Good g) (H.the-variants.Good h) e = ap H.the-variants.Good (good-same g h e)
-told-header (H.the-variants.Good g) (H.the-variants.Refused s) e = never g (numberOf s) e
-told-header (H.the-variants.Refused r) (H.the-variants.Good h) e = never h (numberOf r) (sym e)
-told-header (H.the-variants.Refused r) (H.the-variants.Refused s) e = ap H.the-variants.Refused (number-one r s (refused-one (numberOf r) (numberOf s) e))
+told-header = told-one toldHeader (answered H.the-variants.Good H.the-variants.Refused) (elim [ H.the-variants.Good h ↦ refl | H.the-variants.Refused r ↦ ap H.the-variants.Refused (number-back r) ])
 
 pub told-part : (a b : P.PartAnswer) → toldPart a ≡ toldPart b → a ≡ b
-told-part (P.the-variants.Whole m) (P.the-variants.Whole n) e = ap P.the-variants.Whole (good-same m n e)
-told-part (P.the-variants.Whole m) (P.the-variants.Refused s) e = never m (numberOf s) e
-told-part (P.the-variants.Refused r) (P.the-variants.Whole n) e = never n (numberOf r) (sym e)
-told-part (P.the-variants.Refused r) (P.the-variants.Refused s) e = ap P.the-variants.Refused (number-one r s (refused-one (numberOf r) (numberOf s) e))
+told-part = told-one toldPart (answered P.the-variants.Whole P.the-variants.Refused) (elim [ P.the-variants.Whole n ↦ refl | P.the-variants.Refused r ↦ ap P.the-variants.Refused (number-back r) ])

@@ -1,13 +1,11 @@
 -- Each public contract settles its call: any two answers that it permits are equal, with states of one view. Assumes nothing.
 use Prim.Native.Nat.{ℕ}
-use mathlib.Core.Path.{_≡_, sym, ap, _∙_}
+use mathlib.Core.Path.{_≡_, refl, sym, ap, _∙_}
 use mathlib.Core.List.{List}
 use lib.IntN.{ℤ}
 use lib.ListN.{length}
 use Rattle.word.specs.Rules.{after, good}
-use Rattle.word.proofs.Rules.{good-same}
-use Rattle.header.specs.Refusals.{numberOf}
-use Rattle.header.proofs.Told.{never, number-one, refused-one}
+use Rattle.header.proofs.Told.{answered, number-back, told-one}
 use Rattle.encoder.specs.Encoder.{view}
 use Rattle.encoder.specs.declared.EncodeAnswer.{EncodeAnswer}
 use Rattle.encoder.specs.declared.EncodedBytes.{EncodedBytes}
@@ -36,10 +34,7 @@ all-settled c rate total samples out r s x y p q = (told-encode r s (p .told ∙
 -- ---- encode_need
 
 pub told-need : (a b : N.NeedAnswer) → toldNeed a ≡ toldNeed b → a ≡ b
-told-need (N.the-variants.Bytes m) (N.the-variants.Bytes n) e = ap N.the-variants.Bytes (good-same m n e)
-told-need (N.the-variants.Bytes m) (N.the-variants.Refused s) e = never m (numberOf s) e
-told-need (N.the-variants.Refused r) (N.the-variants.Bytes n) e = never n (numberOf r) (sym e)
-told-need (N.the-variants.Refused r) (N.the-variants.Refused s) e = ap N.the-variants.Refused (number-one r s (refused-one (numberOf r) (numberOf s) e))
+told-need = told-one toldNeed (answered N.the-variants.Bytes N.the-variants.Refused) (elim [ N.the-variants.Bytes n ↦ refl | N.the-variants.Refused r ↦ ap N.the-variants.Refused (number-back r) ])
 
 pub need-settled : (c total : ℕ) (a b : N.NeedAnswer) → toldNeed a ≡ after (needRules c total) (good (needOf c total)) → toldNeed b ≡ after (needRules c total) (good (needOf c total)) → a ≡ b
 need-settled c total a b p q = told-need a b (p ∙ sym q)

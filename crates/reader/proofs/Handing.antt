@@ -9,10 +9,10 @@ use lib.IntN.{ℤ}
 use lib.ListN.{length}
 use types.Run.{OneOf}
 use denote.Enum.Declared.{tagOf}
-use Rattle.word.specs.Rules.{Answer, good, refused, unless, firstOf}
+use Rattle.word.specs.Rules.{good, refused, unless, firstOf}
+use Rattle.word.proofs.Rules.{never}
 use Rattle.header.specs.Refusals.{numberOf}
 use Rattle.header.specs.declared.refusal.Refusal.{Refusal}
-use Rattle.header.proofs.Told.{never}
 use Rattle.state.specs.View.{View, view}
 use Rattle.state.specs.declared.QoaDecoder.{QoaDecoder}
 use Rattle.decoder.specs.Left.{Leaves}

@@ -7,10 +7,11 @@ use denote.Ref.{RefT, now}
 use lib.IntN.{ℤ}
 use lib.ListN.{length}
 use Rattle.word.specs.Rules.{after, firstOf, good, refused, unless}
+use Rattle.word.proofs.Rules.{never}
 use Rattle.header.specs.Part.{partLength, partOf, toldPart}
 use Rattle.header.specs.Refusals.{numberOf}
 use Rattle.header.specs.declared.refusal.Refusal.{Refusal}
-use Rattle.header.proofs.Told.{never, told-part}
+use Rattle.header.proofs.Told.{told-part}
 use Rattle.state.specs.Opening.{OpenLeaves, openRules, toldOpen}
 use Rattle.state.specs.View.{View, view}
 use Rattle.state.specs.declared.QoaDecoder.{QoaDecoder}

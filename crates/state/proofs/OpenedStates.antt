@@ -21,7 +21,7 @@ use Rattle.header.specs.Format.{stateEnd}
 use Rattle.header.specs.Header.{headerAt, headerRules, leftAt}
 use Rattle.header.specs.Part.{cutRules}
 use Rattle.header.specs.Predictor.{lmsAt, lmsOf, noLms}
-use Rattle.header.proofs.Fields.{AreBytes}
+use Rattle.word.proofs.Fields.{AreBytes}
 use Rattle.header.proofs.Headers.{header-small, passes}
 use Rattle.header.proofs.Predictors.{read-fits, read-within}
 use Rattle.state.specs.States.{goodState, weightBound}

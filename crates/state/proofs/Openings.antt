@@ -1,17 +1,18 @@
 -- Laws of opening: which rule decides, and the state that is left. Assumes nothing.
 use Prim.Native.Nat.{ℕ, _+_, _-_, _*_, _≤_, _<_}
-use mathlib.Core.Path.{_≡_, refl, sym, ap, _∙_}
+use mathlib.Core.Path.{_≡_, refl, sym, _∙_}
 use mathlib.Core.Bool.{false, cond}
 use mathlib.Core.List.{List, [], _∷_, _++_}
-use mathlib.Core.Option.{Option, none, some}
+use mathlib.Core.Option.{none, some}
 use native.Mathlib.Omega.{arith}
 use borrow.Author.Tests.{eq-eqb, ne-eqb}
 use lib.Dec.{ltb}
 use lib.IntN.{ℤ}
 use lib.ListN.{length}
-use Rattle.word.specs.Rules.{good, refused, Rule, _gives_, after, firstOf, unless}
+use Rattle.word.specs.Rules.{good, refused, _gives_, after, firstOf}
 use Rattle.word.specs.Written.{table, written}
 use Rattle.word.proofs.Rules.{after-good, fires, fires-left, fires-right, good-same, none-fires, quiet, quiet-parts}
+pub use Rattle.word.proofs.Rules.{after-refused}
 use Rattle.word.proofs.Tests.{tests}
 use Rattle.header.specs.FileHeader.{fileHeader, fileRules, isFixed, totalOf}
 use Rattle.header.specs.Format.{maxChannels, stateEnd}
@@ -22,7 +23,6 @@ use Rattle.header.specs.Refusals.{numberOf}
 use Rattle.header.specs.declared.frame.FrameHeader.{FrameHeader}
 use Rattle.header.specs.declared.refusal.Refusal.{Refusal}
 use Rattle.header.proofs.Headers.{passes}
-use Rattle.header.proofs.Told.{never, refused-one}
 use Rattle.lms.specs.declared.QoaLms.{QoaLms}
 use Rattle.state.specs.View.{factsIn, view}
 use Rattle.state.specs.Opening.{OpenLeaves, firstRules, openRules, openedAt, openedFixed, openedStream, toldOpen, zeroState}
@@ -31,14 +31,6 @@ use Rattle.state.specs.declared.ProcessingMode.the-variants.{FixedSample
 use Rattle.state.specs.declared.OpenAnswer.{OpenAnswer}
 use Rattle.state.specs.declared.OpenAnswer.the-variants.{Opened, Refused}
 use Rattle.state.proofs.Views.{stored-lms}
-
--- a refusal, where the value is good, is the first rule's that fires
-unless-refused : {A : Type 0} (o : Option ℕ) (x : A) (n : ℕ) → unless o (good x) ≡ refused n → o ≡ some n
-unless-refused none x n e = never x n e
-unless-refused {A} (some m) x n e = ap {B = Option ℕ} some (refused-one {A = A} m n e)
-
-pub after-refused : {A : Type 0} (l : List Rule) (x : A) (n : ℕ) → after l (good x) ≡ refused n → firstOf l ≡ some n
-after-refused l x n e = unless-refused (firstOf l) x n e
 
 -- ---- the first frame
 

@@ -5,9 +5,7 @@ use mathlib.Core.Bool.{Bool}
 use mathlib.Core.List.{List}
 use mathlib.Core.Option.{Option, none, some}
 use Rattle.word.specs.Rules.{firstOf}
-use Rattle.word.proofs.Rules.{good-same}
-use Rattle.header.specs.Refusals.{numberOf}
-use Rattle.header.proofs.Told.{never, number-one, refused-one}
+use Rattle.header.proofs.Told.{answered, number-back, told-one}
 use Rattle.state.specs.View.{view}
 use Rattle.state.specs.States.{goodState}
 use Rattle.state.specs.Opening.{OpenLeaves, openRules, toldOpen}
@@ -18,16 +16,10 @@ use Rattle.state.specs.declared.FactsAnswer as F
 use Rattle.state.proofs.Openings.{Opens}
 
 pub told-open : (a b : O.OpenAnswer) → toldOpen a ≡ toldOpen b → a ≡ b
-told-open O.the-variants.Opened O.the-variants.Opened e = refl
-told-open O.the-variants.Opened (O.the-variants.Refused s) e = never tt (numberOf s) e
-told-open (O.the-variants.Refused r) O.the-variants.Opened e = never tt (numberOf r) (sym e)
-told-open (O.the-variants.Refused r) (O.the-variants.Refused s) e = ap O.the-variants.Refused (number-one r s (refused-one (numberOf r) (numberOf s) e))
+told-open = told-one toldOpen (answered (λ _. O.the-variants.Opened) O.the-variants.Refused) (elim [ O.the-variants.Opened ↦ refl | O.the-variants.Refused r ↦ ap O.the-variants.Refused (number-back r) ])
 
 pub told-facts : (a b : F.FactsAnswer) → toldFacts a ≡ toldFacts b → a ≡ b
-told-facts (F.the-variants.Known f) (F.the-variants.Known g) e = ap F.the-variants.Known (good-same f g e)
-told-facts (F.the-variants.Known f) (F.the-variants.Refused s) e = never f (numberOf s) e
-told-facts (F.the-variants.Refused r) (F.the-variants.Known g) e = never g (numberOf r) (sym e)
-told-facts (F.the-variants.Refused r) (F.the-variants.Refused s) e = ap F.the-variants.Refused (number-one r s (refused-one (numberOf r) (numberOf s) e))
+told-facts = told-one toldFacts (answered F.the-variants.Known F.the-variants.Refused) (elim [ F.the-variants.Known f ↦ refl | F.the-variants.Refused r ↦ ap F.the-variants.Refused (number-back r) ])
 
 -- is_good
 pub is-good-settled : (d : QoaDecoder) (bytes : ℕ) (r s : Bool) → r ≡ goodState (view d) bytes → s ≡ goodState (view d) bytes → r ≡ s

@@ -1,6 +1,7 @@
 -- From the survey's answer to the call's: what was refused, and what decoding finds where nothing was. Assumes nothing.
 use Prim.Native.Nat.{ℕ, _+_, _≤_, _<_}
 use mathlib.Core.Path.{_≡_, refl, sym, ap, _∙_}
+use mathlib.Core.Logic.{⊎-elim}
 use mathlib.Core.Bool.{true}
 use mathlib.Core.List.{List, [], _∷_}
 use mathlib.Core.Option.{Option, none, some}
@@ -10,10 +11,9 @@ use lib.IntN.{ℤ}
 use lib.ListN.{length, drop, length-append}
 use lib.Seq.{drop-at}
 use Rattle.word.specs.Rules.{Answer, firstOf, good, refused, unless, _then_}
-use Rattle.word.proofs.Rules.{fires, good-same, none-fires, then-good}
+use Rattle.word.proofs.Rules.{fires, good-same, never, none-fires, then-good, then-refused}
 use Rattle.word.proofs.Tests.{notn, tests}
 use Rattle.header.specs.Grammar.{Each, IsFrame, joined, tailOk}
-use Rattle.header.proofs.Told.{never, refused-one}
 use Rattle.format.specs.Walk.{Walk, roomRules, samplesOf, walkOf}
 use Rattle.format.specs.Reader.{Audio, audioIn, audioOf, decode}
 use Rattle.format.specs.Streaming.{IsFree, fitting, freeFrames, samplesIn, streamed}
@@ -28,8 +28,7 @@ use Rattle.whole.proofs.Decoding.{joined-held}
 
 -- a refusal of what is told of a value is one of the value
 mapped-refused : {A B : Type 0} (f : A → B) (a : Answer A) (n : ℕ) → (a then λ x. good (f x)) ≡ refused n → a ≡ refused n
-mapped-refused {A} f (refused m) n e = ap {B = Answer A} refused (refused-one m n e)
-mapped-refused f (good x) n e = never (f x) n e
+mapped-refused f a n e = ⊎-elim (λ same. same) (λ y. never (f (y .0)) n (y .2)) (then-refused a (λ x. good (f x)) n e)
 
 -- ---- streaming frames
 

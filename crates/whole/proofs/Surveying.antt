@@ -9,7 +9,7 @@ use native.Mathlib.Omega.{arith}
 use borrow.Author.Tests.{le-ltb}
 use lib.ListN.{length, take, drop, length-drop}
 use Rattle.word.specs.Rules.{Answer, firstOf, good, refused, unless, _then_}
-use Rattle.word.proofs.Rules.{fires, none-fires, quiet}
+use Rattle.word.proofs.Rules.{fires, never, none-fires, quiet}
 use Rattle.word.proofs.Tests.{tests}
 use Rattle.header.specs.Format.{mostBytes}
 use Rattle.header.specs.FileHeader.{fileHeader, fileRules, isFixed, totalOf}
@@ -17,7 +17,6 @@ use Rattle.header.specs.Header.{headerAt}
 use Rattle.header.specs.Part.{lengthOf}
 use Rattle.header.specs.Grammar.{Each, IsFrame, joined}
 use Rattle.header.specs.declared.frame.FrameHeader.{FrameHeader}
-use Rattle.header.proofs.Told.{never}
 use Rattle.header.proofs.FileHeaders.{file-good}
 use Rattle.format.specs.Walk.{Walk, afterFrame, frameAt, samplesOf, walkOf, withFrame}
 use Rattle.format.specs.Reader.{audioIn, audioOf, body, bodyFor, cutOf, longRules, rulesAt, someRules, wholeFile, withFirst}

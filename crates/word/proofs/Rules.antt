@@ -1,6 +1,7 @@
 -- The laws of `firstOf`, `unless` and `_then_`: what a good answer says of the rules before it, and the other way round. Assumes nothing.
 use Prim.Native.Nat.{ℕ, zero, suc}
-use mathlib.Core.Path.{_≡_, refl, ap}
+use mathlib.Core.Path.{_≡_, refl, sym, ap}
+use mathlib.Core.Logic.{_⊎_, inl, inr, ⊎-elim}
 use mathlib.Core.Bool.{true, false, not}
 use mathlib.Core.List.{List, [], _∷_, _++_}
 use mathlib.Core.Option.{Option, none, some, Option·some-ne-none, Option·none-ne-some}
@@ -61,15 +62,18 @@ quiet-both [] b p q = q
 quiet-both ((t gives n) ∷ a) b p q = (p .0, quiet-both a b (p .1) q)
 
 module _ {A : Type 0} where
-  never-good : {X : Type 0} (n : ℕ) (x : A) → _≡_ {A = Answer A} (refused n) (good x) → X
-  never-good n x e = let z : _≡_ {A = ℕ} 0 1 = cc in absurd (omega arith)
+  pub never : {X : Type 0} (x : A) (n : ℕ) → good x ≡ refused n → X
+  never x n e = let z : _≡_ {A = ℕ} 0 1 = cc in absurd (omega arith)
 
   pub good-same : (x y : A) → good x ≡ good y → x ≡ y
   good-same x y e = cc
 
+  pub refused-one : (m n : ℕ) → _≡_ {A = Answer A} (refused m) (refused n) → m ≡ n
+  refused-one m n e = cc
+
   pub unless-good : (o : Option ℕ) (a : Answer A) (x : A) → unless o a ≡ good x → (o ≡ none) × (a ≡ good x)
   unless-good none a x e = (refl, e)
-  unless-good (some n) a x e = never-good n x e
+  unless-good (some n) a x e = never x n (sym e)
 
   pub after-good : (l : List Rule) (a : Answer A) (x : A) → after l a ≡ good x → Quiet l × (a ≡ good x)
   after-good l a x e = let h = unless-good (firstOf l) a x e in (quiet l (h .0), h .1)
@@ -77,7 +81,23 @@ module _ {A : Type 0} where
   pub good-after : (l : List Rule) (a : Answer A) → Quiet l → after l a ≡ a
   good-after l a q = rw (none-fires l q)
 
+  -- the first rule that fires decides
+  pub refused-at : (i : ℕ) (l : List Rule) (n : ℕ) (a : Answer A) → FiresAt i l n → after l a ≡ refused n
+  refused-at i l n a f = rw (fires i l n f)
+
+  -- a refusal is the rules', or else the answer's
+  pub unless-refused : (o : Option ℕ) (a : Answer A) (n : ℕ) → unless o a ≡ refused n → (o ≡ some n) ⊎ ((o ≡ none) × (a ≡ refused n))
+  unless-refused none a n e = inr (refl, e)
+  unless-refused (some m) a n e = inl (ap {B = Option ℕ} some (refused-one m n e))
+
+  pub after-refused : (l : List Rule) (x : A) (n : ℕ) → after l (good x) ≡ refused n → firstOf l ≡ some n
+  after-refused l x n e = ⊎-elim (λ fired. fired) (λ no. never x n (no .1)) (unless-refused (firstOf l) (good x) n e)
+
 module _ {A B : Type 0} where
+  pub then-refused : (a : Answer A) (f : A → Answer B) (n : ℕ) → (a then f) ≡ refused n → (a ≡ refused n) ⊎ ((y : A) × (a ≡ good y) × (f y ≡ refused n))
+  then-refused (refused m) f n e = inl (ap {B = Answer A} refused (refused-one m n e))
+  then-refused (good y) f n e = inr (y, refl, e)
+
   pub then-good : (a : Answer A) (f : A → Answer B) (x : B) → (a then f) ≡ good x → (y : A) × (a ≡ good y) × (f y ≡ good x)
-  then-good (refused n) f x e = never-good n x e
+  then-good (refused n) f x e = never x n (sym e)
   then-good (good y) f x e = (y, refl, e)

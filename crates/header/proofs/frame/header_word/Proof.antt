@@ -2,7 +2,7 @@
 use borrow.Author.Needs.{needs}
 use native.Mathlib.Omega.{arith}
 use Rattle.header.specs.Header.{headerWord}
-use Rattle.header.proofs.Fields.{joined}
+use Rattle.word.proofs.Fields.{joined}
 use Rattle.header.proofs.frame.header_word.Statement.{statement}
 use Rattle.header.proofs.frame.header_word.Tie as tie
 

@@ -2,7 +2,7 @@
 use borrow.Author.Needs.{needs}
 use mathlib.Core.Path.{ap, _∙_}
 use Rattle.header.specs.Predictor.{fourOf, lmsAt}
-use Rattle.header.proofs.Fields.{AreBytes}
+use Rattle.word.proofs.Fields.{AreBytes}
 use Rattle.header.proofs.Predictors.{four-of-bytes}
 use Rattle.header.proofs.predictor.read_lms.Statement.{statement}
 use Rattle.header.proofs.predictor.read_lms.Tie as tie

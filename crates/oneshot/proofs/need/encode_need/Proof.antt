@@ -4,9 +4,8 @@ use mathlib.Core.Path.{ap, sym, _∙_}
 use Prim.Native.Nat.{ℕ}
 use native.Mathlib.Omega.{arith}
 use Rattle.word.specs.Rules.{Answer, good}
-use Rattle.word.proofs.Rules.{good-after}
+use Rattle.word.proofs.Rules.{good-after, refused-at}
 use Rattle.word.proofs.Tests.{tests}
-use Rattle.header.proofs.Told.{refused-at}
 use Rattle.oneshot.specs.OneShot.{needRules}
 use Rattle.oneshot.proofs.need.encode_need.Statement.{statement}
 use Rattle.oneshot.proofs.need.encode_need.Tie as tie

@@ -5,11 +5,11 @@ use mathlib.Core.List.{List}
 use mathlib.Core.Option.{none}
 use Prim.Native.Nat.{ℕ}
 use Rattle.word.specs.Rules.{Answer, after, firstOf, good}
-use Rattle.word.proofs.Rules.{after-good, good-same, none-fires}
+use Rattle.word.proofs.Rules.{after-good, after-refused, good-same, none-fires}
 use Rattle.header.specs.FileHeader.{fileHeader, toldFile}
 use Rattle.header.specs.Header.{headerAt, toldHeader}
 use Rattle.state.specs.Opening.{firstRules}
-use Rattle.state.proofs.Openings.{after-refused, file-refused, file-total, first-facts, fixed-rules, opens-good, opens-refused, stream-rules}
+use Rattle.state.proofs.Openings.{file-refused, file-total, first-facts, fixed-rules, opens-good, opens-refused, stream-rules}
 use Rattle.state.proofs.opening.open_decoder.Statement.{statement}
 use Rattle.state.proofs.opening.open_decoder.Tie as tie
 
