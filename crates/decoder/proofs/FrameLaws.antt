@@ -6,24 +6,21 @@ use mathlib.Core.Logic.{dite}
 use mathlib.Core.Option.{none, some}
 use Prim.Native.Nat.{ℕ, _+_, _*_, _≤_, _<_}
 use native.Mathlib.Decide.{decLt}
-use native.Mathlib.Nat.{mul-one, zero-add}
 use native.Mathlib.Omega.{arith}
 use borrow.Author.Tests.{le-ltb, lt-ltb}
 use lib.Dec.{ltb}
 use lib.ListN.{length}
 use lib.Seq.{ext-getD}
-use Rattle.word.specs.Rules.{Rule, after, firstOf}
+use Rattle.word.specs.Rules.{Rule, firstOf}
 use Rattle.word.specs.Written.{table, written}
 use Rattle.word.proofs.Rules.{fires, fires-left, fires-right, none-fires, quiet, quiet-parts}
-use Rattle.word.proofs.Tables.{table-ext}
 use Rattle.word.proofs.Tests.{tests}
-use Rattle.word.proofs.Writes.{written-at}
 use Rattle.lms.specs.declared.QoaLms.{QoaLms}
 use Rattle.header.specs.Format.{maxChannels, slicesOf, stateEnd}
 use Rattle.header.specs.Grammar.{tailOk}
 use Rattle.header.specs.Header.{headerAt, headerRules, leftAt}
 use Rattle.header.specs.Part.{cutRules}
-use Rattle.header.specs.Predictor.{lmsAt, lmsOf, noLms}
+use Rattle.header.specs.Predictor.{lmsAt, noLms}
 use Rattle.header.specs.Refusals.{numberOf}
 use Rattle.header.proofs.Headers.{passes}
 use Rattle.header.specs.declared.frame.FrameHeader.{FrameHeader}
@@ -37,6 +34,7 @@ use Rattle.state.specs.States.{goodState}
 use Rattle.state.specs.declared.QoaDecoder.{QoaDecoder}
 use Rattle.state.specs.declared.ProcessingMode.{ProcessingMode}
 use Rattle.state.specs.declared.ProcessingMode.the-variants.{FixedSamples, Streaming}
+use Rattle.state.proofs.Views.{stored-lms}
 use Rattle.decoder.specs.Into.{groupsEnd}
 use Rattle.decoder.specs.Frames.{EnterDone, NextDone, a-frame, dropped, enterRules, entered, enteredOr, foundAt, frameRules, modeRules, nextRules}
 use Rattle.decoder.specs.declared.NextFrame.{NextFrame}
@@ -93,48 +91,18 @@ module _ (bs : List ℕ) (d : QoaDecoder) where
       → view (startedAt place h) ≡ entered bs v
   unfolding view entered table
   view-started place h h-is room v mode-is at-is =
-      rw (mode-is, at-is, ← h-is) same
-    where
-      lms-is : table (h .channels) (lmsOf (written (λ j. lmsAt bs (place + 8 + 16 * j)) (d .lms) 0 1 (h .channels))) ≡ table (h .channels) (λ j. lmsAt bs (place + 8 + 16 * j))
-      lms-is =
-          table-ext (h .channels) (lmsOf (written (λ j. lmsAt bs (place + 8 + 16 * j)) (d .lms) 0 1 (h .channels))) (λ j. lmsAt bs (place + 8 + 16 * j))
-          (λ j used. rw (zero-add, mul-one) at (written-at (λ j. lmsAt bs (place + 8 + 16 * j)) (d .lms) 0 1 (h .channels) j noLms (omega arith) used (omega (arith, mul-one j))))
-
-      same : _≡_ {A = View}
-          (record {
-            mode = d .mode;
-            at = place + stateEnd (h .channels);
-            frame = factsIn h;
-            remaining = h .samples;
-            next = 0;
-            end = 0;
-            pending = [];
-            given = true;
-            lms = table (h .channels) (lmsOf (written (λ j. lmsAt bs (place + 8 + 16 * j)) (d .lms) 0 1 (h .channels)));
-          })
-          (record {
-            mode = d .mode;
-            at = place + stateEnd (h .channels);
-            frame = factsIn h;
-            remaining = h .samples;
-            next = 0;
-            end = 0;
-            pending = [];
-            given = true;
-            lms = table (h .channels) (λ j. lmsAt bs (place + 8 + 16 * j));
-          })
-      same =
-          λ i. record {
-            mode = d .mode;
-            at = place + stateEnd (h .channels);
-            frame = factsIn h;
-            remaining = h .samples;
-            next = 0;
-            end = 0;
-            pending = [];
-            given = true;
-            lms = lms-is i;
-          }
+      let lms-is = stored-lms (λ j. lmsAt bs (place + 8 + 16 * j)) (d .lms) (h .channels) room in
+      rw (mode-is, at-is, ← h-is) (λ i. record {
+        mode = d .mode;
+        at = place + stateEnd (h .channels);
+        frame = factsIn h;
+        remaining = h .samples;
+        next = 0;
+        end = 0;
+        pending = [];
+        given = true;
+        lms = lms-is i;
+      })
 
 -- ---- the checks of a frame, one after the other
 

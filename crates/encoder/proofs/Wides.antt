@@ -7,8 +7,7 @@ use mathlib.Core.Option.{Option, none, some}
 use mathlib.Core.Logic.{⊎-elim}
 use native.Mathlib.Nat.{eq-or-lt-of-le, le-of-suc-le-suc, not-suc-le-zero}
 use native.Mathlib.Omega.{arith}
-use lib.IntN.{ℤ, pos, negsuc, natAbs}
-use lib.Signed.{mag}
+use Rattle.wrap.proofs.Integers.{abs≤mag}
 use Rattle.lms.specs.Predictor.{at, WeightsWithin}
 use Rattle.lms.specs.declared.QoaLms.{QoaLms}
 use Rattle.header.specs.Predictor.{lmsOf}
@@ -16,12 +15,8 @@ use Rattle.state.specs.States.{allShort}
 use Rattle.state.proofs.GoodStates.{short-fits}
 use Rattle.encoder.specs.Frame.{firstWide, orThen}
 
-abs-mag : (z : ℤ) → natAbs z ≤ suc (mag z)
-abs-mag (pos n) = omega arith
-abs-mag (negsuc n) = omega arith
-
 pub short-within : (lms : QoaLms) → allShort (lms .weights) ≡ true → WeightsWithin 32768 lms
-short-within lms e = record { bound = λ i. omega (arith, abs-mag (at (lms .weights) i), short-fits (lms .weights) e i .sfits) }
+short-within lms e = record { bound = λ i. omega (arith, abs≤mag (at (lms .weights) i), short-fits (lms .weights) e i .sfits) }
 
 -- ---- the first channel
 
