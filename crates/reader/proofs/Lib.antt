@@ -1,3 +1,4 @@
--- Laws for the crates above.
+-- Laws for the crates above, and the walk that two calls share.
+mod Onward
 pub mod Handing
 pub mod Settled

@@ -45,6 +45,11 @@ handed-one : (o : Option ℕ) (at : ℕ) (d : QoaDecoder) (v : View) (m n : ℕ)
 handed-one none at d v m n a b p q = (p .0 ∙ sym (q .0), p .1 ∙ sym (q .1))
 handed-one (some k) at d v m n a b p q = (p .0 ∙ sym (q .0), ap view (p .1 ∙ sym (q .1)))
 
+-- two readers and states that one call hands back
+read-one : (o : Option ℕ) (g : Reader) (d : QoaDecoder) (v : View) (r s : Reader) (a b : QoaDecoder) → r .src ≡ g .src → s .src ≡ g .src
+    → Handed o (g .at) d v (r .at) a → Handed o (g .at) d v (s .at) b → (r ≡ s) × (view a ≡ view b)
+read-one o g d v r s a b p q x y = let one = handed-one o (g .at) d v (r .at) (s .at) a b x y in (same-reader r s (g .src) p q (one .0), one .1)
+
 as-given : {A : Type 0} (o : Option ℕ) (at : ℕ) (d : QoaDecoder) (v : View) (x : A) (n m : ℕ) (a : QoaDecoder) → refused n ≡ unless o (good x) → Handed o at d v m a → (m ≡ at) × (a ≡ d)
 as-given none at d v x n m a e p = never x n (sym e)
 as-given (some k) at d v x n m a e p = p
@@ -83,14 +88,11 @@ reader-open-settled src r s x y =
 -- ---- decode_into
 
 module _ (bs : List ℕ) (at : ℕ) (d : QoaDecoder) (out : List ℤ) where
-  into-one : (m n : ℕ) (r s : DecodedInto) (o p : List ℤ) → IntoRead bs at d out m r o → IntoRead bs at d out n s p → (m ≡ n) × (r .answer ≡ s .answer) × (view (r .state) ≡ view (s .state)) × (o ≡ p)
-  into-one m n r s o p x y =
-      let one = handed-one (firstOf (intoRules bs (there at d) (length out))) at d (intoAfter bs (there at d) (length out)) m n (r .state) (s .state) (x .left) (y .left) in
-      (one .0, told-into (r .answer) (s .answer) (x .told ∙ sym (y .told)), one .1, x .stored ∙ sym (y .stored))
-
   pub decode-from-settled : (r s : DecodedAt) (o p : List ℤ) → IntoRead bs at d out (r .at) (r .done) o → IntoRead bs at d out (s .at) (s .done) p
       → (r .at ≡ s .at) × (r .done .answer ≡ s .done .answer) × (view (r .done .state) ≡ view (s .done .state)) × (o ≡ p)
-  decode-from-settled r s o p x y = into-one (r .at) (s .at) (r .done) (s .done) o p x y
+  decode-from-settled r s o p x y =
+      let one = handed-one (firstOf (intoRules bs (there at d) (length out))) at d (intoAfter bs (there at d) (length out)) (r .at) (s .at) (r .done .state) (s .done .state) (x .left) (y .left) in
+      (one .0, told-into (r .done .answer) (s .done .answer) (x .told ∙ sym (y .told)), one .1, x .stored ∙ sym (y .stored))
 
   pub into-refused : (e : Refusal) (m : ℕ) (r : DecodedInto) (o : List ℤ) → IntoRead bs at d out m r o → r .answer ≡ I.the-variants.Refused e → (m ≡ at) × (r .state ≡ d)
   into-refused e m r o x f =
@@ -101,43 +103,34 @@ pub decode-into-settled : (g : Reader) (d : QoaDecoder) (out : List ℤ) (r s : 
     → (s .reader .src ≡ g .src) × IntoRead (now (g .src)) (g .at) d out (s .reader .at) (s .done) p
     → (r .reader ≡ s .reader) × (r .done .answer ≡ s .done .answer) × (view (r .done .state) ≡ view (s .done .state)) × (o ≡ p)
 decode-into-settled g d out r s o p x y =
-    let one = into-one (now (g .src)) (g .at) d out (r .reader .at) (s .reader .at) (r .done) (s .done) o p (x .1) (y .1) in
-    (same-reader (r .reader) (s .reader) (g .src) (x .0) (y .0) (one .0), one .1, one .2, one .3)
+    let here = there (g .at) d in
+    let one = read-one (firstOf (intoRules (now (g .src)) here (length out))) g d (intoAfter (now (g .src)) here (length out)) (r .reader) (s .reader) (r .done .state) (s .done .state) (x .0) (y .0) (x .1 .left) (y .1 .left) in
+    (one .0, told-into (r .done .answer) (s .done .answer) (x .1 .told ∙ sym (y .1 .told)), one .1, x .1 .stored ∙ sym (y .1 .stored))
 
 -- ---- next_frame
 
-module _ (bs : List ℕ) (at : ℕ) (d : QoaDecoder) where
-  frame-one : (m n : ℕ) (r s : NextFrame) → FrameRead bs at d m r → FrameRead bs at d n s → (m ≡ n) × (r .answer ≡ s .answer) × (view (r .state) ≡ view (s .state))
-  frame-one m n r s x y =
-      let one = handed-one (firstOf (nextRules bs (there at d))) at d (nextAfter bs (there at d)) m n (r .state) (s .state) (x .left) (y .left) in
-      (one .0, told-frame (r .answer) (s .answer) (x .told ∙ sym (y .told)), one .1)
-
-  pub frame-refused : (e : Refusal) (m : ℕ) (r : NextFrame) → FrameRead bs at d m r → r .answer ≡ F.the-variants.Refused e → (m ≡ at) × (r .state ≡ d)
-  frame-refused e m r x f =
-      as-given (firstOf (nextRules bs (there at d))) at d (nextAfter bs (there at d)) (nextFound bs (there at d)) (numberOf e) m (r .state) (sym (ap toldFrame f) ∙ x .told) (x .left)
+pub frame-refused : (bs : List ℕ) (at : ℕ) (d : QoaDecoder) (e : Refusal) (m : ℕ) (r : NextFrame) → FrameRead bs at d m r → r .answer ≡ F.the-variants.Refused e → (m ≡ at) × (r .state ≡ d)
+frame-refused bs at d e m r x f =
+    as-given (firstOf (nextRules bs (there at d))) at d (nextAfter bs (there at d)) (nextFound bs (there at d)) (numberOf e) m (r .state) (sym (ap toldFrame f) ∙ x .told) (x .left)
 
 pub next-frame-settled : (g : Reader) (d : QoaDecoder) (r s : ReadFrame)
     → (r .reader .src ≡ g .src) × FrameRead (now (g .src)) (g .at) d (r .reader .at) (r .done) → (s .reader .src ≡ g .src) × FrameRead (now (g .src)) (g .at) d (s .reader .at) (s .done)
     → (r .reader ≡ s .reader) × (r .done .answer ≡ s .done .answer) × (view (r .done .state) ≡ view (s .done .state))
 next-frame-settled g d r s x y =
-    let one = frame-one (now (g .src)) (g .at) d (r .reader .at) (s .reader .at) (r .done) (s .done) (x .1) (y .1) in
-    (same-reader (r .reader) (s .reader) (g .src) (x .0) (y .0) (one .0), one .1, one .2)
+    let here = there (g .at) d in
+    let one = read-one (firstOf (nextRules (now (g .src)) here)) g d (nextAfter (now (g .src)) here) (r .reader) (s .reader) (r .done .state) (s .done .state) (x .0) (y .0) (x .1 .left) (y .1 .left) in
+    (one .0, told-frame (r .done .answer) (s .done .answer) (x .1 .told ∙ sym (y .1 .told)), one .1)
 
 -- ---- the item step
 
-module _ (bs : List ℕ) (at : ℕ) (d : QoaDecoder) where
-  item-one : (m n : ℕ) (r s : NextItem) → ItemRead bs at d m r → ItemRead bs at d n s → (m ≡ n) × (r .item ≡ s .item) × (view (r .state) ≡ view (s .state))
-  item-one m n r s x y =
-      let one = handed-one (firstOf (itemRules bs (there at d))) at d (itemAfter bs (there at d)) m n (r .state) (s .state) (x .left) (y .left) in
-      (one .0, told-item (r .item) (s .item) (x .told ∙ sym (y .told)), one .1)
-
-  pub item-refused : (e : Refusal) (m : ℕ) (r : NextItem) → ItemRead bs at d m r → r .item ≡ Q.the-variants.Refused e → (m ≡ at) × (r .state ≡ d)
-  item-refused e m r x f =
-      as-given (firstOf (itemRules bs (there at d))) at d (itemAfter bs (there at d)) (itemOf bs (there at d)) (numberOf e) m (r .state) (sym (ap toldItem f) ∙ x .told) (x .left)
+pub item-refused : (bs : List ℕ) (at : ℕ) (d : QoaDecoder) (e : Refusal) (m : ℕ) (r : NextItem) → ItemRead bs at d m r → r .item ≡ Q.the-variants.Refused e → (m ≡ at) × (r .state ≡ d)
+item-refused bs at d e m r x f =
+    as-given (firstOf (itemRules bs (there at d))) at d (itemAfter bs (there at d)) (itemOf bs (there at d)) (numberOf e) m (r .state) (sym (ap toldItem f) ∙ x .told) (x .left)
 
 pub next-item-settled : (g : Reader) (d : QoaDecoder) (r s : ReadItem)
     → (r .reader .src ≡ g .src) × ItemRead (now (g .src)) (g .at) d (r .reader .at) (r .done) → (s .reader .src ≡ g .src) × ItemRead (now (g .src)) (g .at) d (s .reader .at) (s .done)
     → (r .reader ≡ s .reader) × (r .done .item ≡ s .done .item) × (view (r .done .state) ≡ view (s .done .state))
 next-item-settled g d r s x y =
-    let one = item-one (now (g .src)) (g .at) d (r .reader .at) (s .reader .at) (r .done) (s .done) (x .1) (y .1) in
-    (same-reader (r .reader) (s .reader) (g .src) (x .0) (y .0) (one .0), one .1, one .2)
+    let here = there (g .at) d in
+    let one = read-one (firstOf (itemRules (now (g .src)) here)) g d (itemAfter (now (g .src)) here) (r .reader) (s .reader) (r .done .state) (s .done .state) (x .0) (y .0) (x .1 .left) (y .1 .left) in
+    (one .0, told-item (r .done .item) (s .done .item) (x .1 .told ∙ sym (y .1 .told)), one .1)
