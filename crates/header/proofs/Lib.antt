@@ -1,5 +1,4 @@
 -- What the proofs of this crate and of those above it cite.
-pub use Rattle.word.proofs.Fields
 pub mod Told
 pub mod Headers
 pub mod FileHeaders

@@ -4,15 +4,14 @@ use mathlib.Core.Path.{_≡_, ap, _∙_}
 use mathlib.Core.List.{List}
 use lib.ListN.{length}
 use Rattle.word.specs.Rules.{Answer, after, firstOf, good, refused}
-use Rattle.word.proofs.Rules.{unless-good}
-use Rattle.header.proofs.Fields.{AreBytes}
+use Rattle.word.proofs.Fields.{AreBytes}
+use Rattle.word.proofs.Rules.{after-refused, unless-good}
 use Rattle.state.specs.View.{View, view}
 use Rattle.state.specs.Facts.{factsAnswer}
 use Rattle.state.specs.Opening.{OpenLeaves, openRules, openedAt}
 use Rattle.state.specs.declared.QoaDecoder.{QoaDecoder}
 use Rattle.state.proofs.KnownFacts.{facts-known}
 use Rattle.state.proofs.OpenedStates.{opened-good}
-use Rattle.state.proofs.Openings.{after-refused}
 use Rattle.qoa.specs.Coded.{openedFacts}
 
 pub not-opened : (b : List ℕ) (n : ℕ) → _≡_ {A = Answer (Unit {0})} (after (openRules b) (good tt)) (refused n) → openedFacts b ≡ refused n

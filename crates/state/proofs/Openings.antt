@@ -11,8 +11,7 @@ use lib.IntN.{ℤ}
 use lib.ListN.{length}
 use Rattle.word.specs.Rules.{good, refused, _gives_, after, firstOf}
 use Rattle.word.specs.Written.{table, written}
-use Rattle.word.proofs.Rules.{after-good, fires, fires-left, fires-right, good-same, none-fires, quiet, quiet-parts}
-pub use Rattle.word.proofs.Rules.{after-refused}
+use Rattle.word.proofs.Rules.{after-good, after-refused, fires, fires-left, fires-right, good-same, none-fires, quiet, quiet-parts}
 use Rattle.word.proofs.Tests.{tests}
 use Rattle.header.specs.FileHeader.{fileHeader, fileRules, isFixed, totalOf}
 use Rattle.header.specs.Format.{maxChannels, stateEnd}
