@@ -38,7 +38,7 @@ fn put_counted(out: &mut [u8], put: usize, samples: &[i16], count: usize) -> usi
 
 // A refusal has to leave all samples alone.
 fn refused(out: &mut [u8], put: usize, samples: &[i16], refusal: Refusal) -> usize
-    ensures { λ r. ⌜ Said (now (samples .entry)) (0) (refusedTexts (numberOf refusal)) put (now (out .entry)) (now (out .exit)) r ⌝ }
+    ensures { λ r. ⌜ Said (now (samples .entry)) 0 (refusedTexts (numberOf refusal)) put (now (out .entry)) (now (out .exit)) r ⌝ }
 {
     if !text::mark::is_kept(samples, 0) {
         return words::scribbled(out, put);
@@ -48,7 +48,7 @@ fn refused(out: &mut [u8], put: usize, samples: &[i16], refusal: Refusal) -> usi
 
 // `ok` with the counted samples, where the rest is as it was marked.
 fn ok_counted(out: &mut [u8], put: usize, samples: &[i16], count: usize) -> usize
-    ensures { λ r. ⌜ Said (now (samples .entry)) (count) (countTexts (now (samples .entry)) count) put (now (out .entry)) (now (out .exit)) r ⌝ }
+    ensures { λ r. ⌜ Said (now (samples .entry)) count (countTexts (now (samples .entry)) count) put (now (out .entry)) (now (out .exit)) r ⌝ }
 {
     if !text::mark::is_kept(samples, count) {
         return words::scribbled(out, put);
