@@ -7,7 +7,7 @@ ghost use lib.IntN.{ℤ, pos, negsuc, natAbs, _+ℤ_, _*ℤ_};
 ghost use lib.Signed.{ltZ, mag};
 ghost use Rattle.wrap.specs.Wrap.{low32, wrap32};
 ghost use Rattle.lms.specs.Predictor.{clamp16, costOf, dot, newLms, olderDot, predicted, penaltyOf, pick, stepped, updated, WeightsWithin};
-ghost use Rattle.lms.specs.Loop.{aheadOf};
+ghost use Rattle.lms.specs.Loop.{aheadOf, eitherWay, gainsOf, sideOf, SmallGains};
 
 // Four numbers of history, the newest last, and a weight for each.
 pub struct QoaLms {
@@ -143,6 +143,48 @@ pub fn update(lms: QoaLms, sample: i16, residual: i32) -> QoaLms
     moved(lms, sample as i32, residual)
 }
 
+// What a weight gains by a table value: a sixteenth of it, and the negative of that for a history below zero.
+pub fn gains(residual: i32) -> [i32; 2]
+    ensures { λ r. ⌜ r ≡ gainsOf residual ⌝ }
+{
+    let step = residual >> 4;
+    [step, 0 - step]
+}
+
+// Which of the two is a history number's.
+fn side(history: i32) -> usize
+    ensures { λ r. ⌜ r ≡ sideOf history ⌝ }
+{
+    if history < 0 { 1 } else { 0 }
+}
+
+// A weight after its gain: what `step` makes of it, by a number from memory in place of a test.
+fn gain(weight: i32, history: i32, gains: &[i32; 2]) -> i32
+    requires { ⌜ (natAbs weight ≤ 2 ^ 30) × SmallGains (now gains) ⌝ }
+    ensures { λ r. ⌜ ((d : ℤ) → now (gains .entry) ≡ eitherWay d → r ≡ stepped weight history d) ⌝ }
+{
+    let place = side(history);
+    weight + gains[place]
+}
+
+// What `moved` makes, by the gains of the table value.
+fn moved_by(lms: QoaLms, sample: i32, gains: &[i32; 2]) -> QoaLms
+    requires { ⌜ (WeightsWithin (2 ^ 30) lms) × SmallGains (now gains) ⌝ }
+    ensures { λ r. ⌜ ((residual : ℤ) → now (gains .entry) ≡ gainsOf residual → r ≡ updated lms sample residual) ⌝ }
+{
+    let history = lms.history;
+    let weights = lms.weights;
+    QoaLms {
+        history: [history[1], history[2], history[3], sample],
+        weights: [
+            gain(weights[0], history[0], gains),
+            gain(weights[1], history[1], gains),
+            gain(weights[2], history[2], gains),
+            gain(weights[3], history[3], gains),
+        ],
+    }
+}
+
 // The predictor, made ready for a loop.
 pub fn ready(lms: QoaLms) -> Ahead
     ensures { λ r. ⌜ r ≡ aheadOf lms ⌝ }
@@ -198,11 +240,11 @@ pub fn clamped_ahead(a: Ahead, residual: i32) -> i32
     if is_short(sum) { sum } else { end }
 }
 
-// The predictor of a loop after a sample.
-pub fn advance(a: Ahead, sample: i32, residual: i32) -> Ahead
-    requires { ⌜ (WeightsWithin (2 ^ 30) (a .lms)) × (natAbs residual ≤ 14336) ⌝ }
-    ensures { λ r. ⌜ r ≡ aheadOf (updated (a .lms) sample residual) ⌝ }
+// The predictor of a loop after a sample whose table value has these gains.
+pub fn advance(a: Ahead, sample: i32, gains: &[i32; 2]) -> Ahead
+    requires { ⌜ (WeightsWithin (2 ^ 30) (a .lms)) × SmallGains (now gains) ⌝ }
+    ensures { λ r. ⌜ ((residual : ℤ) → now (gains .entry) ≡ gainsOf residual → r ≡ aheadOf (updated (a .lms) sample residual)) ⌝ }
 {
     let lms = a.lms;
-    ready(moved(lms, sample, residual))
+    ready(moved_by(lms, sample, gains))
 }

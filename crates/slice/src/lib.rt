@@ -16,7 +16,7 @@ ghost use Rattle.lms.specs.declared.QoaLms.{QoaLms};
 ghost use Rattle.scale.specs.Tables.{dequantTab, rowOf};
 ghost use Rattle.trial.specs.Trial.{heard};
 ghost use Rattle.header.specs.Format.{maxChannels, slicesOf};
-ghost use Rattle.slice.specs.Slice.{residualAt, sampleAt, stateAfter, HeardTo};
+ghost use Rattle.slice.specs.Slice.{residualAt, sampleAt, stateAfter, GainsOf, HeardTo};
 ghost use Rattle.slice.specs.Channel.{channelAt, runAfter};
 ghost use Rattle.slice.specs.Groups.{groupsAt, groupsStates, AllWithin};
 
@@ -38,6 +38,22 @@ fn hear_code(row: &[i32; 8], lms: QoaLms, word: u64, i: usize) -> Heard
     trial::hear(lms, value_at(row, word, i))
 }
 
+// What a weight gains by each table value of a row.
+fn gains_of(row: [i32; 8]) -> [[i32; 2]; 8]
+    ensures { λ r. ⌜ GainsOf r row ⌝ }
+{
+    [
+        lms::gains(row[0]),
+        lms::gains(row[1]),
+        lms::gains(row[2]),
+        lms::gains(row[3]),
+        lms::gains(row[4]),
+        lms::gains(row[5]),
+        lms::gains(row[6]),
+        lms::gains(row[7]),
+    ]
+}
+
 // How many samples of a slice are heard, and the predictor after them.
 struct Part {
     done: usize,
@@ -55,6 +71,7 @@ fn drop_codes(word: u64, n: usize) -> u64
 // The quiet loop: the samples of a slice from one on to another, up to the first that is to be clamped. A sum of 16 bits is its own clamp.
 fn hear_quiet(
     row: &[i32; 8],
+    gains: &[[i32; 2]; 8],
     lms: QoaLms,
     word: u64,
     out: &mut [i16],
@@ -64,6 +81,7 @@ fn hear_quiet(
     to: usize,
 ) -> Part
     requires row { ⌜ now row ≡ rowOf (scaleOf word) ⌝ }
+    requires gains { ⌜ GainsOf (now gains) (rowOf (scaleOf word)) ⌝ }
     requires small { ⌜ (WeightsWithin (2 ^ 29 + 17920) lms) × (from ≤ to) × (to ≤ 20) ⌝ }
     requires room { ⌜ ((i : ℕ) → i < to → start + i * stride < length (now out)) ⌝ }
     ensures done { λ r. ⌜ r .done ≤ to ⌝ }
@@ -72,14 +90,15 @@ fn hear_quiet(
     let rest = drop_codes(word, from);
     let mut state = lms::ready(lms);
     for i in from..to {
-        let value = value_at(row, rest, i - from);
+        let code = word::code(rest, i - from);
+        let value = row[code];
         let sum = lms::sum_ahead(state, value);
         if !lms::is_short(sum) {
             let left = state.lms;
             return Part { done: i, lms: left };
         }
         out[start + i * stride] = sum as i16;
-        state = lms::advance(state, sum, value);
+        state = lms::advance(state, sum, &gains[code]);
     }
     let after = state.lms;
     Part {
@@ -91,6 +110,7 @@ fn hear_quiet(
 // The quiet loop from a slice's start, four samples at a time: the compiler writes four out, and no number has to move.
 fn hear_fours(
     row: &[i32; 8],
+    gains: &[[i32; 2]; 8],
     lms: QoaLms,
     word: u64,
     out: &mut [i16],
@@ -99,6 +119,7 @@ fn hear_fours(
     fours: usize,
 ) -> Part
     requires row { ⌜ now row ≡ rowOf (scaleOf word) ⌝ }
+    requires gains { ⌜ GainsOf (now gains) (rowOf (scaleOf word)) ⌝ }
     requires small { ⌜ (WeightsWithin (2 ^ 29) lms) × (4 * fours ≤ 20) ⌝ }
     requires room { ⌜ ((i : ℕ) → i < 4 * fours → start + i * stride < length (now out)) ⌝ }
     ensures done { λ r. ⌜ r .done ≤ 4 * fours ⌝ }
@@ -107,7 +128,17 @@ fn hear_fours(
     let mut part = Part { done: 0, lms };
     for k in 0..fours {
         let state = part.lms;
-        part = hear_quiet(row, state, word, out, start, stride, 4 * k, 4 * k + 4);
+        part = hear_quiet(
+            row,
+            gains,
+            state,
+            word,
+            out,
+            start,
+            stride,
+            4 * k,
+            4 * k + 4,
+        );
         if part.done < 4 * k + 4 {
             return part;
         }
@@ -118,6 +149,7 @@ fn hear_fours(
 // The loud loop: every sample of a slice from one on is clamped.
 fn hear_loud(
     row: &[i32; 8],
+    gains: &[[i32; 2]; 8],
     lms: QoaLms,
     word: u64,
     out: &mut [i16],
@@ -127,6 +159,7 @@ fn hear_loud(
     count: usize,
 ) -> QoaLms
     requires row { ⌜ now row ≡ rowOf (scaleOf word) ⌝ }
+    requires gains { ⌜ GainsOf (now gains) (rowOf (scaleOf word)) ⌝ }
     requires small { ⌜ (WeightsWithin (2 ^ 29 + 17920) lms) × (from ≤ count) × (count ≤ 20) ⌝ }
     requires room { ⌜ ((i : ℕ) → i < count → start + i * stride < length (now out)) ⌝ }
     ensures { λ r. ⌜ ((s : QoaLms) (o : List ℤ) → HeardTo word s o start stride from lms (now (out .entry)) → HeardTo word s o start stride count r (now (out .exit))) ⌝ }
@@ -134,10 +167,11 @@ fn hear_loud(
     let mut state = lms::ready(lms);
     let mut rest = drop_codes(word, from);
     for i in from..count {
-        let value = value_at(row, rest, 0);
+        let code = word::code(rest, 0);
+        let value = row[code];
         let sample = lms::clamped_ahead(state, value);
         out[start + i * stride] = sample as i16;
-        state = lms::advance(state, sample, value);
+        state = lms::advance(state, sample, &gains[code]);
         rest = drop_codes(rest, 1);
     }
     state.lms
@@ -165,6 +199,7 @@ fn fours_to_try(lms: QoaLms, count: usize) -> usize
 // The first `count` samples of a slice, stored at start, start + stride, ..: by the quiet loop as far as it goes, then by the loud one.
 fn hear_stored(
     row: &[i32; 8],
+    gains: &[[i32; 2]; 8],
     lms: QoaLms,
     word: u64,
     out: &mut [i16],
@@ -173,16 +208,17 @@ fn hear_stored(
     count: usize,
 ) -> QoaLms
     requires row { ⌜ now row ≡ rowOf (scaleOf word) ⌝ }
+    requires gains { ⌜ GainsOf (now gains) (rowOf (scaleOf word)) ⌝ }
     requires small { ⌜ (WeightsWithin (2 ^ 29) lms) × (count ≤ 20) ⌝ }
     requires room { ⌜ ((i : ℕ) → i < count → start + i * stride < length (now out)) ⌝ }
     ensures state { λ r. ⌜ r ≡ stateAfter word lms count ⌝ }
     ensures samples { λ r. ⌜ now (out .exit) ≡ written (sampleAt word lms) (now (out .entry)) start stride count ⌝ }
 {
     let fours = fours_to_try(lms, count);
-    let part = hear_fours(row, lms, word, out, start, stride, fours);
+    let part = hear_fours(row, gains, lms, word, out, start, stride, fours);
     let done = part.done;
     let state = part.lms;
-    hear_loud(row, state, word, out, start, stride, done, count)
+    hear_loud(row, gains, state, word, out, start, stride, done, count)
 }
 
 // The samples of a slice from one on, heard and not stored, for the predictor's sake.
@@ -217,7 +253,8 @@ pub fn decode_slice(
 {
     let sf = word::scale_factor(word);
     let row = tab[sf];
-    let state = hear_stored(&row, lms, word, out, start, stride, count);
+    let gains = gains_of(row);
+    let state = hear_stored(&row, &gains, lms, word, out, start, stride, count);
     hear_rest(&row, state, word, count)
 }
 

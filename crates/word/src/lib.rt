@@ -49,12 +49,14 @@ pub fn read_u32(bytes: &[u8], at: usize) -> u32
     read_be(bytes, at, 4) as u32
 }
 
-// The 64-bit number at a place.
+// The 64-bit number at a place. In two halves, which the compiler makes one load.
 pub fn read_u64(bytes: &[u8], at: usize) -> u64
     requires { ⌜ at + 8 ≤ length (now bytes) ⌝ }
     ensures { λ r. ⌜ r ≡ be64 (now (bytes .entry)) at ⌝ }
 {
-    read_be(bytes, at, 8)
+    let high = read_be(bytes, at, 4);
+    let low = read_be(bytes, at + 4, 4);
+    (high << 32) | low
 }
 
 // Stores the lowest `n` bytes of a number from a place on, the topmost first.

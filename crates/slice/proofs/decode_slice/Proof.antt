@@ -25,14 +25,19 @@ element-copy-out-row c = search needs
 row-is : (c : tie.After-scale-factor) → getD (c .before .args .tab .now) (c .scale-factor .result) [] ≡ rowOf (scaleOf (c .before .args .word))
 row-is c = rw (c .before .pre .0, c .scale-factor .ensures) (tab-row (scaleOf (c .before .args .word)) (omega arith))
 
+gains-of-requires : tie.Need-gains-of-requires
+gains-of-requires c κs = search needs
+
 hear-stored-requires : tie.Need-hear-stored-requires
-hear-stored-requires c κs = (row-is (c .before .before .before), c .before .before .before .before .pre .1)
+hear-stored-requires c κs =
+    let row = row-is (c .before .before .before .before .before) in
+    (row, (rw row at (c .before .before .before .gains-of .ensures), c .before .before .before .before .before .before .pre .1))
 
 hear-rest-requires : tie.Need-hear-rest-requires
 hear-rest-requires c κs =
-    let start = c .before .before .before .before .before .before .before in
+    let start = c .before .before .before .before .before .before .before .before .before in
     let within = state-within (start .args .word) (start .pre .1 .0 .0) (start .args .count) in
-    (row-is (c .before .before .before .before .before .before), (rw (c .before .before .hear-stored .ensures .0) (within-more (omega arith) within), start .pre .1 .0 .1))
+    (row-is (c .before .before .before .before .before .before .before .before), (rw (c .before .before .hear-stored .ensures .0) (within-more (omega arith) within), start .pre .1 .0 .1))
 
 same-length : tie.Need-same-length
 same-length c = search needs
@@ -40,7 +45,7 @@ same-length c = search needs
 returns : tie.Need-returns
 returns c =
     let stored = c .before .before .before .hear-stored .ensures in
-    (c .hear-rest .ensures (c .before .before .before .before .before .before .before .before .args .lms) (stored .0), stored .1)
+    (c .hear-rest .ensures (c .before .before .before .before .before .before .before .before .before .before .args .lms) (stored .0), stored .1)
 
 pub decode-slice-spec : {M : Type 1} → statement M
 decode-slice-spec =
@@ -49,6 +54,7 @@ decode-slice-spec =
     scale-factor-requires
     mul-row
     element-copy-out-row
+    gains-of-requires
     hear-stored-requires
     hear-rest-requires
     same-length

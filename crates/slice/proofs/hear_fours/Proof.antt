@@ -12,11 +12,11 @@ use Rattle.slice.proofs.hear_fours.Statement.{statement}
 use Rattle.slice.proofs.hear_fours.Tie as tie
 
 abbrev Inv-loop : tie.InvT-loop
-Inv-loop row word out₀ start stride fours part₀ k₀ out part k =
+Inv-loop row gains word out₀ start stride fours part₀ k₀ out part k =
     (k ≤ fours) × (part .done ≡ 4 * k) × HeardTo word (part₀ .lms) out₀ start stride (4 * k) (part .lms) out
 
 abbrev μ-loop : tie.MeasureT-loop
-μ-loop row word out₀ start stride fours part₀ k₀ out part k = fours - k
+μ-loop row gains word out₀ start stride fours part₀ k₀ out part k = fours - k
 
 loop-holds : tie.Need-loop-holds Inv-loop μ-loop
 unfolding stateAfter written
@@ -38,15 +38,18 @@ hear-quiet-requires c κs =
     let so-far = l .loop .inv .2 in (
       start .pre .0,
       (
-        (rw (so-far .0) (within-more (omega arith) (state-within (start .args .word) (start .pre .1 .0 .0) (4 * l .loop .k))), omega arith, omega arith),
-        λ i h. rw (so-far .1, length-written) (start .pre .1 .1 i (omega arith)),
+        start .pre .1 .0,
+        (
+          (rw (so-far .0) (within-more (omega arith) (state-within (start .args .word) (start .pre .1 .1 .0 .0) (4 * l .loop .k))), omega arith, omega arith),
+          λ i h. rw (so-far .1, length-written) (start .pre .1 .1 .1 i (omega arith)),
+        ),
       ),
     )
 
 -- how far the call came, from the slice's start
 came : (c : tie.After-hear-quiet Inv-loop μ-loop) →
     let args = c .before .before .before .before .before .args in
-    HeardTo (args .word) (args .lms) (args .out .now) (args .start) (args .stride) (c .hear-quiet .result .done) (c .hear-quiet .result .lms) (c .hear-quiet .last .1 .1 .1 .0)
+    HeardTo (args .word) (args .lms) (args .out .now) (args .start) (args .stride) (c .hear-quiet .result .done) (c .hear-quiet .result .lms) (c .hear-quiet .last .1 .1 .1 .1 .0)
 came c =
     let l = c .before .before .before .before in
     c .hear-quiet .ensures .1 (l .before .args .lms) (l .before .args .out .now) (l .loop .inv .2)

@@ -1,19 +1,20 @@
 -- `slice::hear_loud` meets its contract. The loop's invariant: `i` samples are heard and stored, whatever the slice began with, and the
 -- codes after them are those of `rest`. The measure is what is left of the count. Assumes nothing.
 use mathlib.Core.Path.{_≡_, refl, sym, ap, ap₂, _∙_}
-use mathlib.Core.List.{List}
+use mathlib.Core.List.{List, []}
 use Prim.Native.Nat.{ℕ, _+_, _*_, _-_, _^_, _≤_, _<_}
 use native.Mathlib.Omega.{arith}
 use lib.IntN.{ℤ, natAbs, _+ℤ_}
-use lib.ListN.{length, length-set}
+use lib.ListN.{getD, length, length-set}
 use mir.Syntax.{w16, w32}
 use mir.Facts.{toZ-ofZ}
 use Rattle.wrap.proofs.Integers.{reread, returned}
-use Rattle.word.specs.Word.{codeOf}
-use Rattle.lms.specs.Loop.{aheadOf}
+use Rattle.word.specs.Word.{codeOf, scaleOf}
+use Rattle.lms.specs.Loop.{aheadOf, gainsOf}
 use Rattle.lms.specs.Predictor.{at, clamp16, predicted, updated, WeightsWithin}
 use Rattle.lms.specs.declared.QoaLms.{QoaLms}
-use Rattle.lms.proofs.Bounds.{clamp16-fits, update-within, within-more}
+use Rattle.lms.proofs.Bounds.{clamp16-fits, gains-small, update-within, within-more}
+use Rattle.scale.specs.Tables.{rowOf}
 use Rattle.slice.specs.Slice.{residualAt, HeardTo}
 use Rattle.slice.proofs.Growth.{residual-small}
 use Rattle.slice.proofs.Steps.{ahead-lms, ahead-own, heard-next}
@@ -21,7 +22,7 @@ use Rattle.slice.proofs.hear_loud.Statement.{statement}
 use Rattle.slice.proofs.hear_loud.Tie as tie
 
 abbrev Inv-loop : tie.InvT-loop
-Inv-loop row word out₀ start stride from count state₀ rest₀ i₀ out state rest i =
+Inv-loop row gains word out₀ start stride from count state₀ rest₀ i₀ out state rest i =
     (i ≤ count)
     × (length out ≡ length out₀)
     × (state ≡ aheadOf (state .lms))
@@ -30,7 +31,7 @@ Inv-loop row word out₀ start stride from count state₀ rest₀ i₀ out state
     × ((s : QoaLms) (o : List ℤ) → HeardTo word s o start stride from (state₀ .lms) out₀ → HeardTo word s o start stride i (state .lms) out)
 
 abbrev μ-loop : tie.MeasureT-loop
-μ-loop row word out₀ start stride from count state₀ rest₀ i₀ out state rest i = count - i
+μ-loop row gains word out₀ start stride from count state₀ rest₀ i₀ out state rest i = count - i
 
 ready-requires : tie.Need-ready-requires Inv-loop μ-loop
 ready-requires c κs = tt
@@ -43,74 +44,110 @@ loop-holds c =
     let ready-is = c .before .ready .ensures in
     let start = c .before .before in
     let lms = start .args .lms in
-    (omega arith, refl, ahead-own lms ready-is, rw (ahead-lms lms ready-is) (within-more (omega arith) (start .pre .1 .0 .0)), c .drop-codes .ensures, λ s o so-far. so-far)
+    (omega arith, refl, ahead-own lms ready-is, rw (ahead-lms lms ready-is) (within-more (omega arith) (start .pre .1 .1 .0 .0)), c .drop-codes .ensures, λ s o so-far. so-far)
 
-value-at-requires : tie.Need-value-at-requires Inv-loop μ-loop
-value-at-requires c κs = omega arith
+code-requires : tie.Need-code-requires Inv-loop μ-loop
+code-requires c κs = omega arith
 
--- the table value of the turn's code
-value-is : (c : tie.After-value-at Inv-loop μ-loop) →
+-- the turn's code
+code-is : (c : tie.After-code Inv-loop μ-loop) →
     let l = c .before .before in
-    reread w32 (c .value-at .result) ≡ residualAt (l .before .before .before .args .word) (l .loop .i)
+    c .code .result ≡ codeOf (l .before .before .before .args .word) (l .loop .i)
+code-is c =
+    let l = c .before .before in
+    let here : l .loop .i + 0 ≡ l .loop .i = omega arith in
+    c .code .ensures ∙ l .loop .inv .4 0 (omega arith) ∙ ap (codeOf (l .before .before .before .args .word)) here
+
+code-below : (c : tie.After-code Inv-loop μ-loop) → c .code .result < 8
+code-below c = omega arith
+
+mul-value : tie.Need-mul-value Inv-loop μ-loop
+mul-value c = omega (arith, code-below c)
+
+element-copy-out-value : tie.Need-element-copy-out-value Inv-loop μ-loop
+element-copy-out-value c = code-below c
+
+-- its table value
+value-is : (c : tie.After-value Inv-loop μ-loop) →
+    let l = c .before .before .before in
+    let start = l .before .before .before in
+    reread w32 (at (start .args .row .now) (c .before .code .result)) ≡ residualAt (start .args .word) (l .loop .i)
 value-is c =
+    let start = c .before .before .before .before .before .before in
+    returned w32 _ (c .value .given) (ap₂ at (start .pre .0) (code-is (c .before)))
+
+value-small : (c : tie.After-value Inv-loop μ-loop) →
+    let start = c .before .before .before .before .before .before in
+    natAbs (reread w32 (at (start .args .row .now) (c .before .code .result))) ≤ 14336
+value-small c = let l = c .before .before .before in rw (value-is c) (residual-small (l .before .before .before .args .word) (l .loop .i))
+
+-- what a weight gains by it
+gains-are : (c : tie.After-code Inv-loop μ-loop) →
     let l = c .before .before in
     let start = l .before .before .before in
-    let here : l .loop .i + 0 ≡ l .loop .i = omega arith in
-    let code-is = l .loop .inv .4 0 (omega arith) ∙ ap (codeOf (start .args .word)) here in
-    returned w32 (c .value-at .result) (c .value-at .ok) (c .value-at .ensures ∙ ap₂ at (start .pre .0) code-is)
-
-value-small : (c : tie.After-value-at Inv-loop μ-loop) → natAbs (reread w32 (c .value-at .result)) ≤ 14336
-value-small c = let l = c .before .before in rw (value-is c) (residual-small (l .before .before .before .args .word) (l .loop .i))
+    getD (start .args .gains .now) (c .code .result) [] ≡ gainsOf (residualAt (start .args .word) (l .loop .i))
+gains-are c =
+    let start = c .before .before .before .before .before in
+    start .pre .1 .0 (c .code .result) (code-below c) ∙ ap (λ (k : ℕ). gainsOf (at (rowOf (scaleOf (start .args .word))) k)) (code-is c)
 
 clamped-ahead-requires : tie.Need-clamped-ahead-requires Inv-loop μ-loop
-clamped-ahead-requires c κs = (c .before .before .loop .inv .2, value-small c)
+clamped-ahead-requires c κs = (c .before .before .before .loop .inv .2, value-small c)
 
 -- the clamped sum
 sample-is : (c : tie.After-clamped-ahead Inv-loop μ-loop) →
-    let l = c .before .before .before in
+    let l = c .before .before .before .before in
     reread w32 (c .clamped-ahead .result) ≡ clamp16 (predicted (l .loop .state .lms) +ℤ residualAt (l .before .before .before .args .word) (l .loop .i))
 sample-is c =
     returned w32 (c .clamped-ahead .result) (c .clamped-ahead .ok)
-    (c .clamped-ahead .ensures ∙ ap (λ (v : ℤ). clamp16 (predicted (c .before .before .before .loop .state .lms) +ℤ v)) (value-is (c .before)))
+    (c .clamped-ahead .ensures ∙ ap (λ (v : ℤ). clamp16 (predicted (c .before .before .before .before .loop .state .lms) +ℤ v)) (value-is (c .before)))
 
 cast-out : tie.Need-cast-out Inv-loop μ-loop
 cast-out c = rw (sample-is c) (clamp16-fits _)
 
 -- the place that a turn stores to
 room : (c : tie.After-clamped-ahead Inv-loop μ-loop) →
-    let l = c .before .before .before in
+    let l = c .before .before .before .before in
     let args = l .before .before .before .args in
     args .start + l .loop .i * args .stride < length (args .out .now)
 room c =
-    let l = c .before .before .before in
-    l .before .before .before .pre .1 .1 (l .loop .i) (omega arith)
+    let l = c .before .before .before .before in
+    l .before .before .before .pre .1 .1 .1 (l .loop .i) (omega arith)
 
-mul-t16 : tie.Need-mul-t16 Inv-loop μ-loop
-mul-t16 c = omega (arith, room c, c .before .before .before .before .before .before .good)
+mul-t17 : tie.Need-mul-t17 Inv-loop μ-loop
+mul-t17 c = omega (arith, room c, c .before .before .before .before .before .before .before .good)
 
-add-t17 : tie.Need-add-t17 Inv-loop μ-loop
-add-t17 c = omega (arith, room c, c .before .before .before .before .before .before .good)
+add-t22 : tie.Need-add-t22 Inv-loop μ-loop
+add-t22 c = omega (arith, room c, c .before .before .before .before .before .before .before .good)
 
-mul-t18 : tie.Need-mul-t18 Inv-loop μ-loop
-mul-t18 c = omega (arith, room c, c .before .before .before .before .before .before .good)
+mul-t23 : tie.Need-mul-t23 Inv-loop μ-loop
+mul-t23 c = omega (arith, room c, c .before .before .before .before .before .before .before .good)
 
 slice-set-from-out : tie.Need-slice-set-from-out Inv-loop μ-loop
-slice-set-from-out c = rw (c .before .before .before .loop .inv .1) (room c)
+slice-set-from-out c = rw (c .before .before .before .before .loop .inv .1) (room c)
+
+mul-advance : tie.Need-mul-advance Inv-loop μ-loop
+mul-advance c = omega (arith, code-below (c .before .before))
+
+index-1-advance : tie.Need-index-1-advance Inv-loop μ-loop
+index-1-advance c = code-below (c .before .before)
 
 advance-requires : tie.Need-advance-requires Inv-loop μ-loop
-advance-requires c κs = (within-more (omega arith) (c .before .before .before .loop .inv .3), value-small (c .before))
+advance-requires c κs =
+    let l = c .before .before .before .before .before in
+    (within-more (omega arith) (l .loop .inv .3), rw (gains-are (c .before .before .before)) (gains-small (residualAt (l .before .before .before .args .word) (l .loop .i)) (residual-small (l .before .before .before .args .word) (l .loop .i))))
 
 drop-codes-requires-2 : tie.Need-drop-codes-requires-2 Inv-loop μ-loop
 drop-codes-requires-2 c κs = omega arith
 
 -- the predictor after the turn
 next-is : (c : tie.After-advance Inv-loop μ-loop) →
-    let l = c .before .before .before .before in
-    c .advance .result ≡ aheadOf (updated (l .loop .state .lms) (reread w16 (reread w32 (c .before .clamped-ahead .result))) (residualAt (l .before .before .before .args .word) (l .loop .i)))
+    let l = c .before .before .before .before .before .before in
+    c .advance .result ≡ aheadOf (updated (l .loop .state .lms) (reread w16 (reread w32 (c .before .before .clamped-ahead .result))) (residualAt (l .before .before .before .args .word) (l .loop .i)))
 next-is c =
-    let l = c .before .before .before .before in
-    c .advance .ensures
-    ∙ ap₂ (λ (x v : ℤ). aheadOf (updated (l .loop .state .lms) x v)) (sym (toZ-ofZ (cast-out (c .before)))) (value-is (c .before .before))
+    let l = c .before .before .before .before .before .before in
+    let residual = residualAt (l .before .before .before .args .word) (l .loop .i) in
+    c .advance .ensures residual (gains-are (c .before .before .before .before))
+    ∙ ap (λ (x : ℤ). aheadOf (updated (l .loop .state .lms) x residual)) (sym (toZ-ofZ (cast-out (c .before .before))))
 
 add-i : tie.Need-add-i Inv-loop μ-loop
 add-i c = omega arith
@@ -120,19 +157,19 @@ loop-less c = omega arith
 
 -- the codes that are left, one fewer
 codes-are : (c : tie.After-drop-codes2 Inv-loop μ-loop) →
-    let l = c .before .before .before .before .before in
+    let l = c .before .before .before .before .before .before .before in
     (j : ℕ) → l .loop .i + 1 + j < 20 → codeOf (c .drop-codes2 .result) j ≡ codeOf (l .before .before .before .args .word) (l .loop .i + 1 + j)
 codes-are c j h =
-    let l = c .before .before .before .before .before in
+    let l = c .before .before .before .before .before .before .before in
     let more : l .loop .i + (1 + j) ≡ l .loop .i + 1 + j = omega arith in
     c .drop-codes2 .ensures j (omega arith) ∙ l .loop .inv .4 (1 + j) (omega arith) ∙ ap (codeOf (l .before .before .before .args .word)) more
 
 loop-again : tie.Need-loop-again Inv-loop μ-loop
 loop-again c =
-    let l = c .before .before .before .before .before in
+    let l = c .before .before .before .before .before .before .before in
     let args = l .before .before .before .args in
     let small = residual-small (args .word) (l .loop .i) in
-    let stored = toZ-ofZ (cast-out (c .before .before)) ∙ sample-is (c .before .before) in
+    let stored = toZ-ofZ (cast-out (c .before .before .before)) ∙ sample-is (c .before .before .before) in
     let next = ahead-lms _ (next-is (c .before)) in (
       omega arith,
       length-set (l .loop .out) _ _ ∙ l .loop .inv .1,
@@ -161,13 +198,17 @@ hear-loud-spec =
     ready-requires
     drop-codes-requires
     loop-holds
-    value-at-requires
+    code-requires
+    mul-value
+    element-copy-out-value
     clamped-ahead-requires
     cast-out
-    mul-t16
-    add-t17
-    mul-t18
+    mul-t17
+    add-t22
+    mul-t23
     slice-set-from-out
+    mul-advance
+    index-1-advance
     advance-requires
     drop-codes-requires-2
     add-i

@@ -13,7 +13,7 @@ fours-to-try-requires c κs = search needs
 hear-fours-requires : tie.Need-hear-fours-requires
 hear-fours-requires c κs =
     let start = c .before .before in
-    (start .pre .0, ((start .pre .1 .0 .0, omega arith), λ i h. start .pre .1 .1 i (omega arith)))
+    (start .pre .0, (start .pre .1 .0, ((start .pre .1 .1 .0 .0, omega arith), λ i h. start .pre .1 .1 .1 i (omega arith))))
 
 hear-loud-requires : tie.Need-hear-loud-requires
 hear-loud-requires c κs =
@@ -21,8 +21,11 @@ hear-loud-requires c κs =
     let so-far = c .before .before .before .hear-fours .ensures .1 in (
       start .pre .0,
       (
-        (rw (so-far .0) (within-more (omega arith) (state-within (start .args .word) (start .pre .1 .0 .0) (c .before .before .before .hear-fours .result .done))), omega arith, start .pre .1 .0 .1),
-        λ i h. rw (so-far .1, length-written) (start .pre .1 .1 i h),
+        start .pre .1 .0,
+        (
+          (rw (so-far .0) (within-more (omega arith) (state-within (start .args .word) (start .pre .1 .1 .0 .0) (c .before .before .before .hear-fours .result .done))), omega arith, start .pre .1 .1 .0 .1),
+          λ i h. rw (so-far .1, length-written) (start .pre .1 .1 .1 i h),
+        ),
       ),
     )
 
