@@ -13,10 +13,9 @@ use mir.Syntax.{w16}
 use mir.Val.{SFits}
 use Rattle.wrap.specs.Wrap.{wrap32}
 use Rattle.wrap.proofs.Elements.{everywhere}
-use Rattle.wrap.proofs.Integers.{abs-add, abs-fits, abs-neg, abs-shift, abs-sub, mag-shift}
+use Rattle.wrap.proofs.Integers.{abs-add, abs-fits, abs-shift, abs-sub, mag-shift}
 use Rattle.wrap.proofs.Modulo.{wrap32-fits}
 use Rattle.lms.specs.Predictor.{above, at, clamp16, dot, newLms, nextWeight, penaltyOf, pick, predicted, stepped, updated, HistoryFits, WeightsWithin}
-use Rattle.lms.specs.Loop.{gainsOf, SmallGains}
 use Rattle.lms.specs.declared.QoaLms.{QoaLms}
 
 -- ---- prediction, penalty and reconstruction
@@ -66,12 +65,6 @@ picked false w d = abs-add w d
 step-bound : (lms : QoaLms) (residual : ℤ) (i : ℕ) → natAbs residual ≤ 14336 → natAbs (nextWeight lms residual i) ≤ natAbs (at (lms .weights) i) + 896
 unfolding nextWeight stepped
 step-bound lms residual i h = le-trans (picked (ltZ (at (lms .history) i) (pos 0)) (at (lms .weights) i) (shrZ residual (2 ^ 4))) (add-le-add (le-refl (natAbs (at (lms .weights) i))) (abs-shift residual 16 896 (lit< tt) h))
-
--- what it gains, either way
-pub gains-small : (residual : ℤ) → natAbs residual ≤ 14336 → SmallGains (gainsOf residual)
-gains-small residual h zero = abs-shift residual 16 896 (lit< tt) h
-gains-small residual h (suc zero) = rw (abs-neg (shrZ residual 16)) (abs-shift residual 16 896 (lit< tt) h)
-gains-small residual h (suc (suc i)) = zero-le
 
 -- of each weight, and of the places past the fourth, where 0 is read
 weight-bound : (lms : QoaLms) (sample residual : ℤ) (i : ℕ) → natAbs residual ≤ 14336 → natAbs (at (updated lms sample residual .weights) i) ≤ natAbs (at (lms .weights) i) + 896

@@ -7,7 +7,7 @@ ghost use lib.IntN.{ℤ, pos, negsuc, natAbs, _+ℤ_, _*ℤ_};
 ghost use lib.Signed.{ltZ, mag};
 ghost use Rattle.wrap.specs.Wrap.{low32, wrap32};
 ghost use Rattle.lms.specs.Predictor.{clamp16, costOf, dot, newLms, olderDot, predicted, penaltyOf, pick, stepped, updated, WeightsWithin};
-ghost use Rattle.lms.specs.Loop.{aheadOf, eitherWay, gainsOf, sideOf, SmallGains};
+ghost use Rattle.lms.specs.Loop.{aheadOf, gained, gainsOf, movedBy, sideOf, SmallGains};
 
 // Four numbers of history, the newest last, and a weight for each.
 pub struct QoaLms {
@@ -161,7 +161,7 @@ fn side(history: i32) -> usize
 // A weight after its gain: what `step` makes of it, by a number from memory in place of a test.
 fn gain(weight: i32, history: i32, gains: &[i32; 2]) -> i32
     requires { ⌜ (natAbs weight ≤ 2 ^ 30) × SmallGains (now gains) ⌝ }
-    ensures { λ r. ⌜ ((d : ℤ) → now (gains .entry) ≡ eitherWay d → r ≡ stepped weight history d) ⌝ }
+    ensures { λ r. ⌜ r ≡ gained weight history (now (gains .entry)) ⌝ }
 {
     let place = side(history);
     weight + gains[place]
@@ -170,7 +170,7 @@ fn gain(weight: i32, history: i32, gains: &[i32; 2]) -> i32
 // What `moved` makes, by the gains of the table value.
 fn moved_by(lms: QoaLms, sample: i32, gains: &[i32; 2]) -> QoaLms
     requires { ⌜ (WeightsWithin (2 ^ 30) lms) × SmallGains (now gains) ⌝ }
-    ensures { λ r. ⌜ ((residual : ℤ) → now (gains .entry) ≡ gainsOf residual → r ≡ updated lms sample residual) ⌝ }
+    ensures { λ r. ⌜ r ≡ movedBy lms sample (now (gains .entry)) ⌝ }
 {
     let history = lms.history;
     let weights = lms.weights;
@@ -243,7 +243,7 @@ pub fn clamped_ahead(a: Ahead, residual: i32) -> i32
 // The predictor of a loop after a sample whose table value has these gains.
 pub fn advance(a: Ahead, sample: i32, gains: &[i32; 2]) -> Ahead
     requires { ⌜ (WeightsWithin (2 ^ 30) (a .lms)) × SmallGains (now gains) ⌝ }
-    ensures { λ r. ⌜ ((residual : ℤ) → now (gains .entry) ≡ gainsOf residual → r ≡ aheadOf (updated (a .lms) sample residual)) ⌝ }
+    ensures { λ r. ⌜ r ≡ aheadOf (movedBy (a .lms) sample (now (gains .entry))) ⌝ }
 {
     let lms = a.lms;
     ready(moved_by(lms, sample, gains))

@@ -5,4 +5,5 @@ pub mod Growth
 pub mod Fits
 pub mod Parts
 pub mod Checked
+mod Codes
 mod Steps

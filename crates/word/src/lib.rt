@@ -1,6 +1,6 @@
 // Big-endian numbers in bytes, and the fields of a slice's 64-bit word.
 ghost use mathlib.Core.Path.{_≡_};
-ghost use Prim.Native.Nat.{ℕ, _+_, _*_, _^_, _≤_, _<_};
+ghost use Prim.Native.Nat.{_+_, _*_, _^_, _≤_, _<_};
 ghost use lib.ListN.{length};
 ghost use Rattle.word.specs.Bytes.{be, be16, be24, be32, be64, put};
 ghost use Rattle.word.specs.Word.{scaleOf, codeOf, filled};

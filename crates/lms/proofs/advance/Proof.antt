@@ -3,8 +3,7 @@
 use mathlib.Core.Path.{ap, _∙_}
 use lib.IntN.{ℤ}
 use mir.Facts.{toZ-ofZ}
-use Rattle.lms.specs.Loop.{aheadOf}
-use Rattle.lms.specs.Predictor.{updated}
+use Rattle.lms.specs.Loop.{aheadOf, movedBy}
 use Rattle.lms.proofs.advance.Statement.{statement}
 use Rattle.lms.proofs.advance.Tie as tie
 
@@ -15,9 +14,9 @@ ready-requires : tie.Need-ready-requires
 ready-requires c κs = tt
 
 returns : tie.Need-returns
-returns c residual e =
+returns c =
     let s = c .before .before .before in
-    let next = c .before .moved-by .ensures residual e ∙ ap (λ (x : ℤ). updated (s .args .a .lms) x residual) (toZ-ofZ (s .fits .sample)) in
+    let next = c .before .moved-by .ensures ∙ ap (λ (x : ℤ). movedBy (s .args .a .lms) x (s .args .gains .now)) (toZ-ofZ (s .fits .sample)) in
     c .ready .ensures ∙ ap aheadOf next
 
 pub advance-spec : {M : Type 1} → statement M

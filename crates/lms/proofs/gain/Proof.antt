@@ -1,19 +1,19 @@
--- `lms::gain` meets its contract. What is added is d or its negative, by the history's sign.
+-- `lms::gain` meets its contract.
 -- Assumes nothing.
-use mathlib.Core.Path.{_≡_, refl, ap, _∙_}
+use mathlib.Core.Path.{_≡_, ap, _∙_}
 use mathlib.Core.Bool.{Bool, true, false, cond}
 use Prim.Native.Nat.{_<_}
 use native.Mathlib.Nat.{le-trans, add-le-add}
 use native.Mathlib.Omega.{arith}
 use lib.Dec.{lit<}
-use lib.IntN.{ℤ, negℤ, pos, _+ℤ_}
+use lib.IntN.{pos, _+ℤ_}
 use lib.Signed.{ltZ}
 use mir.Facts.{toZ-ofZ}
 use mir.Syntax.{w32}
 use Rattle.wrap.proofs.Elements.{element}
 use Rattle.wrap.proofs.Integers.{abs-add, fits-abs, reread}
-use Rattle.lms.specs.Loop.{eitherWay, sideOf}
-use Rattle.lms.specs.Predictor.{at, pick, stepped}
+use Rattle.lms.specs.Loop.{gained, sideOf}
+use Rattle.lms.specs.Predictor.{at}
 use borrow.Author.Needs.{needs}
 use Rattle.lms.proofs.gain.Statement.{statement}
 use Rattle.lms.proofs.gain.Tie as tie
@@ -22,11 +22,6 @@ use Rattle.lms.proofs.gain.Tie as tie
 side-below : (t : Bool) → cond t 1 0 < 2
 side-below true = lit< tt
 side-below false = lit< tt
-
--- what stands there of d and its negative
-side-gain : (t : Bool) (w d : ℤ) → w +ℤ at (eitherWay d) (cond t 1 0) ≡ pick t (w +ℤ negℤ d) (w +ℤ d)
-side-gain true w d = refl
-side-gain false w d = refl
 
 side-requires : tie.Need-side-requires
 side-requires c κs = search needs
@@ -43,7 +38,7 @@ mul-result c = omega (arith, place c)
 element-copy-out-result : tie.Need-element-copy-out-result
 element-copy-out-result c = place c
 
--- both numbers, as the machine holds them
+-- the gain, as the machine holds it
 held : (c : tie.After-result) → reread w32 (at (c .before .before .args .gains .now) (c .before .side .result)) ≡ at (c .before .before .args .gains .now) (c .before .side .result)
 held c = toZ-ofZ (search element)
 
@@ -55,10 +50,8 @@ add-result c =
     (fits-abs (s .args .weight +ℤ gained) (le-trans (abs-add (s .args .weight) gained) (add-le-add (s .pre .0) (s .pre .1 (c .before .side .result)))) (lit< tt))
 
 returns : tie.Need-returns
-unfolding stepped
-returns c d e =
-    let s = c .before .before in
-    toZ-ofZ (add-result c) ∙ rw (toZ-ofZ (s .fits .weight), held c, e, side-is (c .before)) (side-gain (ltZ (s .args .history) (pos 0)) (s .args .weight) d)
+unfolding gained
+returns c = toZ-ofZ (add-result c) ∙ rw (toZ-ofZ (c .before .before .fits .weight), held c, side-is (c .before))
 
 pub gain-spec : {M : Type 1} → statement M
 gain-spec =

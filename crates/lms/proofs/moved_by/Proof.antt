@@ -4,13 +4,14 @@ use borrow.Author.Needs.{needs}
 use mathlib.Core.Path.{_≡_, _∙_}
 use mathlib.Core.List.{[], _∷_}
 use lib.IntN.{ℤ, natAbs}
-use lib.Signed.{mag, shrZ}
+use lib.Signed.{mag}
 use mir.Facts.{toZ-ofZ}
 use Rattle.wrap.proofs.Integers.{fits-of, reread}
 use Prim.Native.Nat.{ℕ, _≤_, _<_, _^_}
 use mir.Syntax.{w32}
 use mir.Val.{SFits}
-use Rattle.lms.specs.Predictor.{at, nextWeight, stepped, updated}
+use Rattle.lms.specs.Loop.{gained, movedBy}
+use Rattle.lms.specs.Predictor.{at}
 use Rattle.wrap.proofs.Elements.{element-field}
 use Rattle.lms.proofs.moved_by.Statement.{statement}
 use Rattle.lms.proofs.moved_by.Tie as tie
@@ -22,11 +23,10 @@ requires : (s : tie.Start) (i : ℕ) → natAbs (reread w32 (at (s .args .lms .w
 requires s i = rw (toZ-ofZ (in-range s i .1)) (s .pre .0 .bound i)
 
 -- the weight at place i, from what `gain` returned
-next : (s : tie.Start) (i : ℕ) (r residual : ℤ) → mag r < 2 ^ 31
-    → r ≡ stepped (reread w32 (at (s .args .lms .weights) i)) (reread w32 (at (s .args .lms .history) i)) (shrZ residual (2 ^ 4))
-    → reread w32 r ≡ nextWeight (s .args .lms) residual i
-unfolding nextWeight
-next s i r residual ok e = toZ-ofZ (fits-of w32 r ok) ∙ e ∙ rw (toZ-ofZ (in-range s i .0), toZ-ofZ (in-range s i .1))
+next : (s : tie.Start) (i : ℕ) (r : ℤ) → mag r < 2 ^ 31
+    → r ≡ gained (reread w32 (at (s .args .lms .weights) i)) (reread w32 (at (s .args .lms .history) i)) (s .args .gains .now)
+    → reread w32 r ≡ gained (at (s .args .lms .weights) i) (at (s .args .lms .history) i) (s .args .gains .now)
+next s i r ok e = toZ-ofZ (fits-of w32 r ok) ∙ e ∙ rw (toZ-ofZ (in-range s i .0), toZ-ofZ (in-range s i .1))
 
 array-copy-out-t8 : tie.Need-array-copy-out-t8
 array-copy-out-t8 c = search needs
@@ -74,17 +74,17 @@ gain-requires-4 : tie.Need-gain-requires-4
 gain-requires-4 c κs = let s = c .before .before .before .before .before .before .before .before .before .before .before .before .before .before .before .before in (requires s 3, s .pre .1)
 
 returns : tie.Need-returns
-unfolding updated
-returns c residual e =
+unfolding movedBy
+returns c =
     let c3 = c .before .before .before in
     let c2 = c3 .before .before .before in
     let c1 = c2 .before .before .before in
     let s = c1 .before .before .before .before .before .before .before .before in
     let sample = toZ-ofZ (s .fits .sample) in
-    let w0 = next s 0 (c1 .gain .result) residual (c1 .gain .ok) (c1 .gain .ensures _ e) in
-    let w1 = next s 1 (c2 .gain2 .result) residual (c2 .gain2 .ok) (c2 .gain2 .ensures _ e) in
-    let w2 = next s 2 (c3 .gain3 .result) residual (c3 .gain3 .ok) (c3 .gain3 .ensures _ e) in
-    let w3 = next s 3 (c .gain4 .result) residual (c .gain4 .ok) (c .gain4 .ensures _ e) in
+    let w0 = next s 0 (c1 .gain .result) (c1 .gain .ok) (c1 .gain .ensures) in
+    let w1 = next s 1 (c2 .gain2 .result) (c2 .gain2 .ok) (c2 .gain2 .ensures) in
+    let w2 = next s 2 (c3 .gain3 .result) (c3 .gain3 .ok) (c3 .gain3 .ensures) in
+    let w3 = next s 3 (c .gain4 .result) (c .gain4 .ok) (c .gain4 .ensures) in
     λ j. record {
       history = toZ-ofZ (in-range s 1 .0) j ∷ toZ-ofZ (in-range s 2 .0) j ∷ toZ-ofZ (in-range s 3 .0) j ∷ sample j ∷ [];
       weights = w0 j ∷ w1 j ∷ w2 j ∷ w3 j ∷ [];

@@ -1,6 +1,6 @@
 -- `slice::decode_slice` meets its contract, by those of its two parts. Assumes nothing.
 use borrow.Author.Needs.{needs}
-use mathlib.Core.Path.{_≡_, _∙_}
+use mathlib.Core.Path.{_≡_}
 use mathlib.Core.List.{[]}
 use native.Mathlib.Omega.{arith}
 use lib.ListN.{getD}

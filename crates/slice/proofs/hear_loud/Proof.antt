@@ -1,21 +1,22 @@
 -- `slice::hear_loud` meets its contract. The loop's invariant: `i` samples are heard and stored, whatever the slice began with, and the
 -- codes after them are those of `rest`. The measure is what is left of the count. Assumes nothing.
 use mathlib.Core.Path.{_≡_, refl, sym, ap, ap₂, _∙_}
-use mathlib.Core.List.{List, []}
+use mathlib.Core.List.{List}
 use Prim.Native.Nat.{ℕ, _+_, _*_, _-_, _^_, _≤_, _<_}
 use native.Mathlib.Omega.{arith}
-use lib.IntN.{ℤ, natAbs, _+ℤ_}
-use lib.ListN.{getD, length, length-set}
+use lib.IntN.{ℤ, _+ℤ_}
+use lib.ListN.{length, length-set}
 use mir.Syntax.{w16, w32}
 use mir.Facts.{toZ-ofZ}
 use Rattle.wrap.proofs.Integers.{reread, returned}
-use Rattle.word.specs.Word.{codeOf, scaleOf}
-use Rattle.lms.specs.Loop.{aheadOf, gainsOf}
-use Rattle.lms.specs.Predictor.{at, clamp16, predicted, updated, WeightsWithin}
+use Rattle.word.specs.Word.{codeOf}
+use Rattle.lms.specs.Loop.{aheadOf, movedBy}
+use Rattle.lms.specs.Predictor.{clamp16, predicted, updated, WeightsWithin}
 use Rattle.lms.specs.declared.QoaLms.{QoaLms}
-use Rattle.lms.proofs.Bounds.{clamp16-fits, gains-small, update-within, within-more}
-use Rattle.scale.specs.Tables.{rowOf}
+use Rattle.lms.proofs.Bounds.{clamp16-fits, update-within, within-more}
+use Rattle.lms.proofs.GainLaws.{moved-updated}
 use Rattle.slice.specs.Slice.{residualAt, HeardTo}
+use Rattle.slice.proofs.Codes.{code-lt, gains-there, small-there, value-small, value-there}
 use Rattle.slice.proofs.Growth.{residual-small}
 use Rattle.slice.proofs.Steps.{ahead-lms, ahead-own, heard-next}
 use Rattle.slice.proofs.hear_loud.Statement.{statement}
@@ -58,48 +59,31 @@ code-is c =
     let here : l .loop .i + 0 ≡ l .loop .i = omega arith in
     c .code .ensures ∙ l .loop .inv .4 0 (omega arith) ∙ ap (codeOf (l .before .before .before .args .word)) here
 
-code-below : (c : tie.After-code Inv-loop μ-loop) → c .code .result < 8
-code-below c = omega arith
+-- which is below 8
+below : (c : tie.After-code Inv-loop μ-loop) → c .code .result < 8
+below c = let l = c .before .before in code-lt (l .before .before .before .args .word) (l .loop .i) (code-is c)
 
 mul-value : tie.Need-mul-value Inv-loop μ-loop
-mul-value c = omega (arith, code-below c)
+mul-value c = omega (arith, below c)
 
 element-copy-out-value : tie.Need-element-copy-out-value Inv-loop μ-loop
-element-copy-out-value c = code-below c
-
--- its table value
-value-is : (c : tie.After-value Inv-loop μ-loop) →
-    let l = c .before .before .before in
-    let start = l .before .before .before in
-    reread w32 (at (start .args .row .now) (c .before .code .result)) ≡ residualAt (start .args .word) (l .loop .i)
-value-is c =
-    let start = c .before .before .before .before .before .before in
-    returned w32 _ (c .value .given) (ap₂ at (start .pre .0) (code-is (c .before)))
-
-value-small : (c : tie.After-value Inv-loop μ-loop) →
-    let start = c .before .before .before .before .before .before in
-    natAbs (reread w32 (at (start .args .row .now) (c .before .code .result))) ≤ 14336
-value-small c = let l = c .before .before .before in rw (value-is c) (residual-small (l .before .before .before .args .word) (l .loop .i))
-
--- what a weight gains by it
-gains-are : (c : tie.After-code Inv-loop μ-loop) →
-    let l = c .before .before in
-    let start = l .before .before .before in
-    getD (start .args .gains .now) (c .code .result) [] ≡ gainsOf (residualAt (start .args .word) (l .loop .i))
-gains-are c =
-    let start = c .before .before .before .before .before in
-    start .pre .1 .0 (c .code .result) (code-below c) ∙ ap (λ (k : ℕ). gainsOf (at (rowOf (scaleOf (start .args .word))) k)) (code-is c)
+element-copy-out-value c = below c
 
 clamped-ahead-requires : tie.Need-clamped-ahead-requires Inv-loop μ-loop
-clamped-ahead-requires c κs = (c .before .before .before .loop .inv .2, value-small c)
+clamped-ahead-requires c κs =
+    let l = c .before .before .before in
+    let start = l .before .before .before in
+    (l .loop .inv .2, value-small (start .args .word) (l .loop .i) (code-is (c .before)) (start .pre .0) (c .value .given))
 
 -- the clamped sum
 sample-is : (c : tie.After-clamped-ahead Inv-loop μ-loop) →
     let l = c .before .before .before .before in
     reread w32 (c .clamped-ahead .result) ≡ clamp16 (predicted (l .loop .state .lms) +ℤ residualAt (l .before .before .before .args .word) (l .loop .i))
 sample-is c =
-    returned w32 (c .clamped-ahead .result) (c .clamped-ahead .ok)
-    (c .clamped-ahead .ensures ∙ ap (λ (v : ℤ). clamp16 (predicted (c .before .before .before .before .loop .state .lms) +ℤ v)) (value-is (c .before)))
+    let l = c .before .before .before .before in
+    let start = l .before .before .before in
+    let value = value-there (start .args .word) (l .loop .i) (code-is (c .before .before)) (start .pre .0) (c .before .value .given) in
+    returned w32 (c .clamped-ahead .result) (c .clamped-ahead .ok) (c .clamped-ahead .ensures ∙ ap (λ (v : ℤ). clamp16 (predicted (l .loop .state .lms) +ℤ v)) value)
 
 cast-out : tie.Need-cast-out Inv-loop μ-loop
 cast-out c = rw (sample-is c) (clamp16-fits _)
@@ -126,15 +110,16 @@ slice-set-from-out : tie.Need-slice-set-from-out Inv-loop μ-loop
 slice-set-from-out c = rw (c .before .before .before .before .loop .inv .1) (room c)
 
 mul-advance : tie.Need-mul-advance Inv-loop μ-loop
-mul-advance c = omega (arith, code-below (c .before .before))
+mul-advance c = omega (arith, below (c .before .before))
 
 index-1-advance : tie.Need-index-1-advance Inv-loop μ-loop
-index-1-advance c = code-below (c .before .before)
+index-1-advance c = below (c .before .before)
 
 advance-requires : tie.Need-advance-requires Inv-loop μ-loop
 advance-requires c κs =
     let l = c .before .before .before .before .before in
-    (within-more (omega arith) (l .loop .inv .3), rw (gains-are (c .before .before .before)) (gains-small (residualAt (l .before .before .before .args .word) (l .loop .i)) (residual-small (l .before .before .before .args .word) (l .loop .i))))
+    let start = l .before .before .before in
+    (within-more (omega arith) (l .loop .inv .3), small-there (start .args .word) (l .loop .i) (code-is (c .before .before .before)) (start .args .gains .now) (start .pre .1 .0))
 
 drop-codes-requires-2 : tie.Need-drop-codes-requires-2 Inv-loop μ-loop
 drop-codes-requires-2 c κs = omega arith
@@ -145,9 +130,11 @@ next-is : (c : tie.After-advance Inv-loop μ-loop) →
     c .advance .result ≡ aheadOf (updated (l .loop .state .lms) (reread w16 (reread w32 (c .before .before .clamped-ahead .result))) (residualAt (l .before .before .before .args .word) (l .loop .i)))
 next-is c =
     let l = c .before .before .before .before .before .before in
-    let residual = residualAt (l .before .before .before .args .word) (l .loop .i) in
-    c .advance .ensures residual (gains-are (c .before .before .before .before))
-    ∙ ap (λ (x : ℤ). aheadOf (updated (l .loop .state .lms) x residual)) (sym (toZ-ofZ (cast-out (c .before .before))))
+    let start = l .before .before .before in
+    let gains = gains-there (start .args .word) (l .loop .i) (code-is (c .before .before .before .before)) (start .args .gains .now) (start .pre .1 .0) in
+    c .advance .ensures
+    ∙ ap₂ (λ (x : ℤ) (g : List ℤ). aheadOf (movedBy (l .loop .state .lms) x g)) (sym (toZ-ofZ (cast-out (c .before .before)))) gains
+    ∙ ap aheadOf (moved-updated (l .loop .state .lms) _ (residualAt (start .args .word) (l .loop .i)))
 
 add-i : tie.Need-add-i Inv-loop μ-loop
 add-i c = omega arith
