@@ -60,7 +60,7 @@ pub fn read_u64(bytes: &[u8], at: usize) -> u64
 }
 
 // Stores the lowest `n` bytes of a number from a place on, the topmost first.
-fn write_be(out: &mut [u8], at: usize, word: u64, n: usize)
+pub fn write_be(out: &mut [u8], at: usize, word: u64, n: usize)
     requires { ⌜ (n ≤ 8) × (at + n ≤ length (now out)) ⌝ }
     ensures { λ r. ⌜ now (out .exit) ≡ put n (now (out .entry)) at word ⌝ }
 {

@@ -1,0 +1,5 @@
+-- Laws that the proofs share.
+pub mod Laying
+pub mod Layouts
+pub mod Holding
+pub mod Readable

@@ -1,0 +1,153 @@
+// The C interface of a decoder whose state is a block of lent bytes. An answer is a number from 0 on, or minus the number of the refusal.
+use block::DECODER_SIZE;
+use decoder::FrameAnswer;
+use decoder::IntoAnswer;
+use decoder::QoaItem;
+use header::refusal::Refusal;
+use state::FactsAnswer;
+use state::FrameFacts;
+use state::OpenAnswer;
+
+// Minus the number of a refusal.
+fn minus(refusal: Refusal) -> i64 {
+    0 - (header::number(refusal) as i64)
+}
+
+// The bytes of a decoder's block.
+#[no_mangle]
+pub extern "C" fn qoa_decoder_size() -> i64 {
+    DECODER_SIZE as i64
+}
+
+// Opens a file: its refusals, then 7 where the block is too short.
+#[no_mangle]
+pub extern "C" fn qoa_decoder_open(bytes: &[u8], state: &mut [u8]) -> i64 {
+    let opened = state::open_decoder(bytes);
+    let answer = opened.answer;
+    match answer {
+        OpenAnswer::Refused(r) => minus(r),
+        OpenAnswer::Opened => {
+            if state.len() < DECODER_SIZE {
+                return minus(Refusal::OutputTooSmall);
+            }
+            let fresh = opened.state;
+            block::write_decoder(state, fresh);
+            0
+        }
+    }
+}
+
+// Samples of the current frame into lent memory: how many.
+#[no_mangle]
+pub extern "C" fn qoa_decoder_into(bytes: &[u8], state: &mut [u8], out: &mut [i16]) -> i64 {
+    let given = block::read_decoder(state);
+    if !given.readable {
+        return minus(Refusal::BadState);
+    }
+    let before = given.state;
+    let done = decoder::decode_into(before, bytes, out);
+    let answer = done.answer;
+    match answer {
+        IntoAnswer::Refused(r) => minus(r),
+        IntoAnswer::Count(n) => {
+            let after = done.state;
+            block::write_decoder(state, after);
+            n as i64
+        }
+    }
+}
+
+// A frame's channels, rate and samples in one number.
+fn frame_code(frame: FrameFacts) -> i64 {
+    let channels = frame.channels as i64;
+    let rate = frame.rate as i64;
+    (channels << 48) + (rate << 16) + (frame.samples as i64)
+}
+
+// On to the next frame: 0 at the end, or the frame's number.
+#[no_mangle]
+pub extern "C" fn qoa_decoder_next_frame(bytes: &[u8], state: &mut [u8]) -> i64 {
+    let given = block::read_decoder(state);
+    if !given.readable {
+        return minus(Refusal::BadState);
+    }
+    let before = given.state;
+    let done = decoder::next_frame(before, bytes);
+    let answer = done.answer;
+    let after = done.state;
+    match answer {
+        FrameAnswer::Refused(r) => minus(r),
+        FrameAnswer::End => {
+            block::write_decoder(state, after);
+            0
+        }
+        FrameAnswer::Frame(frame) => {
+            block::write_decoder(state, after);
+            frame_code(frame)
+        }
+    }
+}
+
+// The next item: 0 at the end, a header or a sample with its mark.
+#[no_mangle]
+pub extern "C" fn qoa_decoder_next_item(bytes: &[u8], state: &mut [u8]) -> i64 {
+    let given = block::read_decoder(state);
+    if !given.readable {
+        return minus(Refusal::BadState);
+    }
+    let before = given.state;
+    let done = decoder::next_item(before, bytes);
+    let item = done.item;
+    let after = done.state;
+    match item {
+        QoaItem::Refused(r) => minus(r),
+        QoaItem::End => {
+            block::write_decoder(state, after);
+            0
+        }
+        QoaItem::Header(frame) => {
+            block::write_decoder(state, after);
+            0x1000_0000_0000_0000 + frame_code(frame)
+        }
+        QoaItem::Sample(sample) => {
+            block::write_decoder(state, after);
+            0x2000_0000_0000_0000 + (wrap::pattern16(sample) as i64)
+        }
+    }
+}
+
+// The facts of a block's state.
+fn facts_in(bytes: &[u8], state: &[u8]) -> FactsAnswer {
+    let given = block::read_decoder(state);
+    if !given.readable {
+        return FactsAnswer::Refused(Refusal::BadState);
+    }
+    let held = given.state;
+    state::facts_given(held, bytes)
+}
+
+// Total, channels and rate into lent memory.
+#[no_mangle]
+pub extern "C" fn qoa_decoder_facts(bytes: &[u8], state: &[u8], facts: &mut [u32]) -> i64 {
+    match facts_in(bytes, state) {
+        FactsAnswer::Refused(r) => minus(r),
+        FactsAnswer::Known(known) => {
+            if facts.len() < 3 {
+                return minus(Refusal::OutputTooSmall);
+            }
+            facts[0] = known.total;
+            facts[1] = known.channels as u32;
+            facts[2] = known.rate;
+            0
+        }
+    }
+}
+
+// The length in seconds, 0.0 where there is none; minus 8 on a refusal.
+#[no_mangle]
+pub extern "C" fn qoa_decoder_seconds(bytes: &[u8], state: &[u8]) -> f64 {
+    match facts_in(bytes, state) {
+        FactsAnswer::Refused(r) => minus(r) as f64,
+        FactsAnswer::Known(known) => known.length,
+    }
+}
