@@ -54,7 +54,8 @@ use Rattle.oneshot.specs.OneShot.{needOf, needRules}
 use Rattle.oneshot.specs.Shots as O
 use Rattle.oneshot.specs.declared.need.NeedAnswer as N
 use Rattle.oneshot.proofs.Settled.{all-settled, need-settled, shot-settled}
-use Rattle.qoa.specs.Coded.{channelsIn, coded, codedEncode, codedSeconds, openedFacts, rateIn, samplesIn}
+use Rattle.codes.specs.Codes.{coded, codedEncode, codedSeconds}
+use Rattle.qoa.specs.Coded.{channelsIn, openedFacts, rateIn, samplesIn}
 
 -- two things that equal a third are equal
 same : {A : Type 0} {x r s : A} → r ≡ x → s ≡ x → r ≡ s

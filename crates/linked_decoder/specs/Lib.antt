@@ -1,1 +1,2 @@
 -- What the contracts cite.
+pub mod Numbers

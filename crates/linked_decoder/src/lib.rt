@@ -1,5 +1,10 @@
 // The C interface of a decoder whose state is a block of lent bytes. An answer is a number from 0 on, or minus the number of the refusal.
+ghost use mathlib.Core.Path.{_≡_};
+ghost use Prim.Native.Nat.{_<_, _^_};
+ghost use Rattle.linked_decoder.specs.Numbers.{frameCode};
 use block::DECODER_SIZE;
+use codes::count;
+use codes::minus;
 use decoder::FrameAnswer;
 use decoder::IntoAnswer;
 use decoder::QoaItem;
@@ -8,15 +13,10 @@ use state::FactsAnswer;
 use state::FrameFacts;
 use state::OpenAnswer;
 
-// Minus the number of a refusal.
-fn minus(refusal: Refusal) -> i64 {
-    0 - (header::number(refusal) as i64)
-}
-
 // The bytes of a decoder's block.
 #[no_mangle]
 pub extern "C" fn qoa_decoder_size() -> i64 {
-    DECODER_SIZE as i64
+    count(DECODER_SIZE)
 }
 
 // Opens a file: its refusals, then 7 where the block is too short.
@@ -52,16 +52,18 @@ pub extern "C" fn qoa_decoder_into(bytes: &[u8], state: &mut [u8], out: &mut [i1
         IntoAnswer::Count(n) => {
             let after = done.state;
             block::write_decoder(state, after);
-            n as i64
+            count(n)
         }
     }
 }
 
 // A frame's channels, rate and samples in one number.
-fn frame_code(frame: FrameFacts) -> i64 {
-    let channels = frame.channels as i64;
-    let rate = frame.rate as i64;
-    (channels << 48) + (rate << 16) + (frame.samples as i64)
+fn frame_code(frame: FrameFacts) -> usize
+    ensures { λ r. ⌜ (r ≡ frameCode frame) × (r < 2 ^ 57) ⌝ }
+{
+    let channels = frame.channels as usize;
+    let rate = frame.rate as usize;
+    channels * 0x1_0000_0000_0000 + rate * 0x1_0000 + (frame.samples as usize)
 }
 
 // On to the next frame: 0 at the end, or the frame's number.
@@ -83,7 +85,7 @@ pub extern "C" fn qoa_decoder_next_frame(bytes: &[u8], state: &mut [u8]) -> i64 
         }
         FrameAnswer::Frame(frame) => {
             block::write_decoder(state, after);
-            frame_code(frame)
+            count(frame_code(frame))
         }
     }
 }
@@ -107,11 +109,11 @@ pub extern "C" fn qoa_decoder_next_item(bytes: &[u8], state: &mut [u8]) -> i64 {
         }
         QoaItem::Header(frame) => {
             block::write_decoder(state, after);
-            0x1000_0000_0000_0000 + frame_code(frame)
+            count(0x1000_0000_0000_0000 + frame_code(frame))
         }
         QoaItem::Sample(sample) => {
             block::write_decoder(state, after);
-            0x2000_0000_0000_0000 + (wrap::pattern16(sample) as i64)
+            count(0x2000_0000_0000_0000 + (wrap::pattern16(sample) as usize))
         }
     }
 }

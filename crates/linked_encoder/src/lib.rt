@@ -1,34 +1,37 @@
 // The C interface of an encoder whose state is a block of lent bytes. An answer is a number from 0 on, or minus the number of the refusal.
+ghost use mathlib.Core.Path.{_≡_};
+ghost use Prim.Native.Nat.{_≤_};
+ghost use lib.IntN.{pos};
+ghost use lib.ListN.{length};
+ghost use Rattle.encoder.specs.Calls.{frameMemory, frameTold, headMemory, headTold, toldEncode};
+ghost use Rattle.encoder.specs.Encoder.{view};
+ghost use Rattle.encoder.specs.Frame.{afterFrame};
+ghost use Rattle.oneshot.specs.OneShot.{before, framesOf, shotRules};
+ghost use Rattle.oneshot.specs.Shots.{shotMemory, shotTold};
+ghost use Rattle.block.specs.EncoderBlock.{encoderIn, encoderSize};
+ghost use Rattle.linked_encoder.specs.Linked.{EncodeLinked, HeadLinked, NewLinked, blockLeft};
 use block::ENCODER_SIZE;
+use codes::count;
+use codes::encoded;
+use codes::minus;
 use encoder::CreateAnswer;
 use encoder::EncodeAnswer;
+use encoder::QoaEncoder;
 use header::refusal::Refusal;
-
-// Minus the number of a refusal.
-fn minus(refusal: Refusal) -> i64 {
-    0 - (header::number(refusal) as i64)
-}
-
-// What an encoding call answers, as one number.
-fn code(answer: EncodeAnswer) -> i64 {
-    match answer {
-        EncodeAnswer::Refused(r) => minus(r),
-        EncodeAnswer::Written(n) => n as i64,
-        EncodeAnswer::WeightRange { count, channel } => {
-            0 - ((14 + 256 * (channel as usize) + 65536 * count) as i64)
-        }
-    }
-}
 
 // The bytes of an encoder's block.
 #[no_mangle]
-pub extern "C" fn qoa_encoder_size() -> i64 {
-    ENCODER_SIZE as i64
+pub extern "C" fn qoa_encoder_size() -> i64
+    ensures { λ r. ⌜ r ≡ pos encoderSize ⌝ }
+{
+    count(ENCODER_SIZE)
 }
 
 // A new encoder: 11, 12, 13, then 7 where the block is too short.
 #[no_mangle]
-pub extern "C" fn qoa_encoder_new(channels: u8, rate: u32, total: u32, state: &mut [u8]) -> i64 {
+pub extern "C" fn qoa_encoder_new(channels: u8, rate: u32, total: u32, state: &mut [u8]) -> i64
+    ensures { λ r. ⌜ NewLinked channels rate total (now (state .entry)) r (now (state .exit)) ⌝ }
+{
     let created = encoder::new_encoder(channels, rate, total);
     let answer = created.answer;
     match answer {
@@ -44,34 +47,23 @@ pub extern "C" fn qoa_encoder_new(channels: u8, rate: u32, total: u32, state: &m
     }
 }
 
-// The file header into lent bytes.
+// The file header into lent bytes: how many.
 #[no_mangle]
-pub extern "C" fn qoa_encoder_header(state: &[u8], out: &mut [u8]) -> i64 {
+pub extern "C" fn qoa_encoder_header(state: &[u8], out: &mut [u8]) -> i64
+    ensures { λ r. ⌜ HeadLinked (now (state .entry)) (headTold (encoderIn (now (state .entry))) (length (now (out .entry)))) (headMemory (encoderIn (now (state .entry))) (now (out .entry))) (now (out .entry)) r (now (out .exit)) ⌝ }
+{
     let given = block::read_encoder(state);
     if !given.readable {
         return minus(Refusal::BadState);
     }
     let held = given.state;
-    code(encoder::write_header(held, out))
-}
-
-// A frame into lent bytes: how many.
-#[no_mangle]
-pub extern "C" fn qoa_encoder_frame(state: &mut [u8], samples: &[i16], out: &mut [u8]) -> i64 {
-    let given = block::read_encoder(state);
-    if !given.readable {
-        return minus(Refusal::BadState);
-    }
-    let before = given.state;
-    let done = encoder::encode_frame(before, samples, out);
-    let after = done.state;
-    let answer = done.answer;
-    keep(state, answer, after);
-    code(answer)
+    encoded(encoder::write_header(held, out))
 }
 
 // Stores the state after an accepted call.
-fn keep(state: &mut [u8], answer: EncodeAnswer, after: encoder::QoaEncoder)
+fn keep(state: &mut [u8], answer: EncodeAnswer, after: QoaEncoder)
+    requires { ⌜ encoderSize ≤ length (now state) ⌝ }
+    ensures { λ r. ⌜ now (state .exit) ≡ blockLeft (toldEncode answer) (view after) (now (state .entry)) ⌝ }
 {
     match answer {
         EncodeAnswer::Written(_) => block::write_encoder(state, after),
@@ -80,17 +72,36 @@ fn keep(state: &mut [u8], answer: EncodeAnswer, after: encoder::QoaEncoder)
     }
 }
 
-// A whole file into lent bytes: how many.
+// A frame into lent bytes: how many. The state goes on.
 #[no_mangle]
-pub extern "C" fn qoa_encoder_file(state: &mut [u8], samples: &[i16], out: &mut [u8]) -> i64 {
+pub extern "C" fn qoa_encoder_frame(state: &mut [u8], samples: &[i16], out: &mut [u8]) -> i64
+    ensures { λ r. ⌜ EncodeLinked (now (state .entry)) (frameTold (encoderIn (now (state .entry))) (now (samples .entry)) (length (now (out .entry)))) (afterFrame (encoderIn (now (state .entry))) (now (samples .entry))) (frameMemory (encoderIn (now (state .entry))) (now (samples .entry)) (now (out .entry))) (now (out .entry)) r (now (state .exit)) (now (out .exit)) ⌝ }
+{
+    let given = block::read_encoder(state);
+    if !given.readable {
+        return minus(Refusal::BadState);
+    }
+    let before = given.state;
+    let done = encoder::encode_frame(before, samples, out);
+    let answer = done.answer;
+    let after = done.state;
+    keep(state, answer, after);
+    encoded(answer)
+}
+
+// A whole file into lent bytes: how many. The state goes on.
+#[no_mangle]
+pub extern "C" fn qoa_encoder_file(state: &mut [u8], samples: &[i16], out: &mut [u8]) -> i64
+    ensures { λ r. ⌜ EncodeLinked (now (state .entry)) (shotTold (shotRules (encoderIn (now (state .entry))) (now (samples .entry)) (length (now (out .entry)))) (encoderIn (now (state .entry))) (now (samples .entry))) (before (encoderIn (now (state .entry))) (now (samples .entry)) (framesOf (encoderIn (now (state .entry))))) (shotMemory (shotRules (encoderIn (now (state .entry))) (now (samples .entry)) (length (now (out .entry)))) (encoderIn (now (state .entry))) (now (samples .entry)) (now (out .entry))) (now (out .entry)) r (now (state .exit)) (now (out .exit)) ⌝ }
+{
     let given = block::read_encoder(state);
     if !given.readable {
         return minus(Refusal::BadState);
     }
     let before = given.state;
     let done = oneshot::encode(before, samples, out);
-    let after = done.state;
     let answer = done.answer;
+    let after = done.state;
     keep(state, answer, after);
-    code(answer)
+    encoded(answer)
 }

@@ -3,3 +3,4 @@ pub mod Files
 pub mod Ends
 pub mod Settled
 pub mod Run
+pub mod Small

@@ -1,52 +1,11 @@
--- A code is a number of 64 bits that reads back as it was made. Assumes nothing.
-use Prim.Native.Nat.{ℕ, zero, suc, _<_, _≤_, _^_}
-use mathlib.Core.Path.{_≡_, refl, sym, ap, _∙_}
-use mathlib.Core.List.{List}
-use native.Mathlib.Nat.{lt-of-le-of-lt}
-use native.Mathlib.Omega.{arith}
-use lib.Dec.{T, lit<, le→leb, lt→ltb}
-use lib.Ieee.{binary64, inFloat}
-use lib.IntN.{ℤ, pos, negsuc, natAbs, negℤ, _-ℤ_, +ℤ-idl}
-use mir.Syntax.{w64}
-use mir.Val.{SFits, toZ}
+-- The code of a part of what a file tells. Assumes nothing.
+use Prim.Native.Nat.{ℕ}
+use mathlib.Core.Path.{_≡_}
 use Rattle.word.specs.Rules.{Answer, good, refused, _then_}
-use Rattle.wrap.proofs.Integers.{abs-neg, fits-abs, read-pos}
-use Rattle.header.specs.Refusals.{numberOf}
-use Rattle.header.specs.declared.refusal.Refusal.{Refusal}
-use Rattle.header.specs.declared.refusal.Refusal.the-variants.{NotQoaFile, NoSamples, InvalidFrameHeader, IncompatibleFrame, Truncated, TooManyChannels, OutputTooSmall, BadState, InputTooLong, InvalidChannels, InvalidSampleRate, InvalidSamples, WeightRange}
 use Rattle.format.specs.Reader.{Audio}
 use Rattle.whole.specs.Told.{summaryIn, summaryOf}
 use Rattle.whole.specs.declared.answer.Summary.{Summary}
-use Rattle.qoa.specs.Coded.{coded}
-
--- the number of a refusal fits a byte
-pub number-small : (r : Refusal) → numberOf r < 256
-number-small NotQoaFile = lit< tt
-number-small NoSamples = lit< tt
-number-small InvalidFrameHeader = lit< tt
-number-small IncompatibleFrame = lit< tt
-number-small Truncated = lit< tt
-number-small TooManyChannels = lit< tt
-number-small OutputTooSmall = lit< tt
-number-small BadState = lit< tt
-number-small InputTooLong = lit< tt
-number-small InvalidChannels = lit< tt
-number-small InvalidSampleRate = lit< tt
-number-small InvalidSamples = lit< tt
-number-small WeightRange = lit< tt
-
--- minus a number, as the code makes it
-pub minus-is : (n : ℕ) → n < 2 ^ 63 → pos 0 -ℤ toZ w64 n ≡ negℤ (pos n)
-minus-is n l = rw (read-pos w64 n l) (+ℤ-idl (negℤ (pos n)))
-
-pub minus-fits : (n : ℕ) → n < 2 ^ 63 → SFits w64 (pos 0 -ℤ toZ w64 n)
-minus-fits n l = rw (minus-is n l) (fits-abs {k = n} (negℤ (pos n)) (rw (abs-neg (pos n)) (omega arith)) l)
-
--- a double holds it
-pub minus-double : (n : ℕ) → n < 256 → T (inFloat binary64 (negℤ (pos n)))
-unfolding inFloat
-minus-double zero l = tt
-minus-double (suc n) l = lt→ltb n (2 ^ 53) (omega arith)
+use Rattle.codes.specs.Codes.{coded}
 
 -- a part of what a file's summary tells is that part of its audio
 pub part-of : (f : Summary → ℕ) (a : Answer Audio) (told : Answer Summary) → told ≡ summaryIn a → coded (told then λ s. good (f s)) ≡ coded (a then λ x. good (f (summaryOf x)))

@@ -3,7 +3,6 @@ pub mod Codes
 pub mod Fitting
 pub mod Opened
 pub mod Encoding
-pub mod Apart
 pub mod Refusing
 pub mod Naming
 pub mod Seconds

@@ -19,8 +19,8 @@ use Rattle.encoder.specs.Frame.{firstWide, orThen}
 use Rattle.oneshot.specs.OneShot.{Stop, before, bytesBefore, fileNeed, framesOf, orStop, shotRules, stopAt, stopIn}
 use Rattle.oneshot.specs.Shots.{allRules, shotTold}
 use Rattle.oneshot.proofs.Ends.{shot-fits}
-use Rattle.qoa.specs.Coded.{codedEncode}
-use Rattle.qoa.proofs.Apart.{Low, NamedTold, coded-encode-one}
+use Rattle.codes.specs.Codes.{codedEncode}
+use Rattle.codes.proofs.Apart.{Low, NamedTold, coded-encode-one}
 use Rattle.qoa.proofs.Refusing.{Numbers, low}
 
 -- ---- the numbers of the rules

@@ -17,8 +17,9 @@ use Rattle.format.specs.Reader.{audioIn, body, bodyFor, cutOf, decode, frameRul
 use Rattle.format.specs.Streaming.{freeFrames, freeRules, samplesIn, streamed}
 use Rattle.format.specs.Walk.{Reader, Walk, afterFrame, ends, frameAt, step, walkBy, walkOf}
 use Rattle.oneshot.specs.OneShot.{needRules}
-use Rattle.qoa.specs.Coded.{coded, openedFacts}
-use Rattle.qoa.proofs.Apart.{Low, Named, coded-one}
+use Rattle.codes.specs.Codes.{coded}
+use Rattle.qoa.specs.Coded.{openedFacts}
+use Rattle.codes.proofs.Apart.{Low, Named, coded-one}
 
 -- ---- rules
 

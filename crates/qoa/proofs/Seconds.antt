@@ -18,9 +18,10 @@ use Rattle.state.specs.Opening.{openRules, openedAt}
 use Rattle.state.specs.declared.FrameFacts.{FrameFacts}
 use Rattle.state.specs.declared.ProcessingMode.{ProcessingMode}
 use Rattle.state.specs.declared.ProcessingMode.the-variants.{FixedSamples, Streaming}
-use Rattle.qoa.specs.Coded.{codedSeconds, openedFacts}
-use Rattle.qoa.proofs.Apart.{Low, neg-one, pos-neg}
-use Rattle.qoa.proofs.Codes.{minus-double}
+use Rattle.codes.specs.Codes.{codedSeconds}
+use Rattle.qoa.specs.Coded.{openedFacts}
+use Rattle.codes.proofs.Apart.{Low, neg-one, pos-neg}
+use Rattle.codes.proofs.Numbers.{minus-double}
 use Rattle.qoa.proofs.Refusing.{Numbers, open-numbers}
 
 -- ---- a double that has no minus sign

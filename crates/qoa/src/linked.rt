@@ -1,53 +1,28 @@
 // The C interface: numbers and slices only, a slice as a pointer and a length. An answer is a count, or minus the number of
 // the refusal.
 ghost use mathlib.Core.Path.{_≡_};
-ghost use Prim.Native.Nat.{_<_, _^_};
-ghost use lib.IntN.{negℤ, pos};
 ghost use lib.ListN.{length};
-ghost use Rattle.word.specs.Rules.{after, good, refused, _then_};
+ghost use Rattle.word.specs.Rules.{after, good, _then_};
 ghost use Rattle.header.specs.Part.{partLength};
-ghost use Rattle.header.specs.Refusals.{numberOf};
 ghost use Rattle.state.specs.Facts.{toldFacts};
 ghost use Rattle.format.specs.Reader.{audioIn, decode};
 ghost use Rattle.format.specs.Streaming.{streamed};
 ghost use Rattle.whole.specs.Told.{countIn, heardIn, kept};
-ghost use Rattle.encoder.specs.Calls.{refuses-14};
 ghost use Rattle.encoder.specs.Encoder.{newView};
 ghost use Rattle.oneshot.specs.OneShot.{needOf, needRules};
 ghost use Rattle.oneshot.specs.Shots.{allRules, shotMemory, shotTold};
-ghost use Rattle.qoa.specs.Coded.{channelsIn, coded, codedSeconds, codedEncode, openedFacts, rateIn, samplesIn};
-use encoder::EncodeAnswer;
+ghost use Rattle.codes.specs.Codes.{coded, codedEncode, codedSeconds};
+ghost use Rattle.qoa.specs.Coded.{channelsIn, openedFacts, rateIn, samplesIn};
+use codes::count;
+use codes::encoded;
+use codes::minus;
 use header::part::PartAnswer;
-use header::refusal::Refusal;
 use oneshot::need::NeedAnswer as BytesAnswer;
 use state::FactsAnswer;
 use state::OpenAnswer;
 use whole::answer::DecodeAnswer;
 use whole::answer::FramesAnswer;
 use whole::answer::NeedAnswer;
-
-// Minus a number.
-fn negated(n: usize) -> i64
-    requires { ⌜ n < 2 ^ 63 ⌝ }
-    ensures { λ r. ⌜ r ≡ negℤ (pos n) ⌝ }
-{
-    0 - (n as i64)
-}
-
-// Minus the number of a refusal.
-fn minus(refusal: Refusal) -> i64
-    ensures { λ r. ⌜ r ≡ coded (refused (numberOf refusal)) ⌝ }
-{
-    negated(header::number(refusal) as usize)
-}
-
-// A count.
-fn count(n: usize) -> i64
-    requires { ⌜ n < 2 ^ 63 ⌝ }
-    ensures { λ r. ⌜ r ≡ pos n ⌝ }
-{
-    n as i64
-}
 
 // A whole file into lent samples: how many. Nothing past them is touched, and nothing at all on a refusal.
 #[no_mangle]
@@ -176,14 +151,6 @@ pub extern "C" fn qoa_facts_seconds(bytes: &[u8]) -> f64
     }
 }
 
-// Refusal 14, with the bytes that stand in the output and the channel.
-fn wide(bytes: usize, channel: u8) -> i64
-    requires { ⌜ bytes < 2 ^ 40 ⌝ }
-    ensures { λ r. ⌜ r ≡ codedEncode (refuses-14 bytes channel) ⌝ }
-{
-    negated(14 + 256 * (channel as usize) + 65536 * bytes)
-}
-
 // Samples into a whole file in lent bytes: how many bytes.
 #[no_mangle]
 pub extern "C" fn qoa_encode_all(
@@ -196,11 +163,7 @@ pub extern "C" fn qoa_encode_all(
     ensures answer { λ r. ⌜ r ≡ codedEncode (shotTold (allRules channels rate total (now (samples .entry)) (length (now (out .entry)))) (newView channels rate total) (now (samples .entry))) ⌝ }
     ensures bytes { λ r. ⌜ now (out .exit) ≡ shotMemory (allRules channels rate total (now (samples .entry)) (length (now (out .entry)))) (newView channels rate total) (now (samples .entry)) (now (out .entry)) ⌝ }
 {
-    match oneshot::encode_all(channels, rate, total, samples, out) {
-        EncodeAnswer::Refused(r) => minus(r),
-        EncodeAnswer::Written(n) => count(n),
-        EncodeAnswer::WeightRange { count: n, channel } => wide(n, channel),
-    }
+    encoded(oneshot::encode_all(channels, rate, total, samples, out))
 }
 
 // How many bytes a whole file takes.

@@ -11,7 +11,7 @@ use Rattle.format.specs.Reader.{audioIn}
 use Rattle.whole.specs.Told.{toldNeed}
 use Rattle.whole.specs.declared.answer.Summary.{Summary}
 use Rattle.whole.specs.declared.answer.NeedAnswer.{NeedAnswer}
-use Rattle.qoa.specs.Coded.{coded}
+use Rattle.codes.specs.Codes.{coded}
 use Rattle.qoa.proofs.Codes.{part-of}
 use Rattle.qoa.proofs.linked.qoa_channels.Statement.{statement}
 use Rattle.qoa.proofs.linked.qoa_channels.Tie as tie

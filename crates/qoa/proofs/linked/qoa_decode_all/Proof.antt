@@ -12,7 +12,7 @@ use Rattle.format.specs.Reader.{decode}
 use Rattle.whole.specs.Told.{toldDecoded}
 use Rattle.whole.specs.declared.answer.Summary.{Summary}
 use Rattle.whole.specs.declared.answer.DecodeAnswer.{DecodeAnswer}
-use Rattle.qoa.specs.Coded.{coded}
+use Rattle.codes.specs.Codes.{coded}
 use Rattle.qoa.proofs.Codes.{part-of}
 use Rattle.qoa.proofs.Fitting.{decoded-fits}
 use Rattle.qoa.proofs.linked.qoa_decode_all.Statement.{statement}

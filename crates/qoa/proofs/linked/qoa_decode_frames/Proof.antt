@@ -8,7 +8,7 @@ use mir.Syntax.{w64}
 use Rattle.wrap.proofs.Integers.{returned}
 use Rattle.whole.specs.Told.{toldFrames}
 use Rattle.whole.specs.declared.answer.FramesAnswer.{FramesAnswer}
-use Rattle.qoa.specs.Coded.{coded}
+use Rattle.codes.specs.Codes.{coded}
 use Rattle.qoa.proofs.Fitting.{streamed-fits}
 use Rattle.qoa.proofs.linked.qoa_decode_frames.Statement.{statement}
 use Rattle.qoa.proofs.linked.qoa_decode_frames.Tie as tie

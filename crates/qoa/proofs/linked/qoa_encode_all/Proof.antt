@@ -10,7 +10,7 @@ use Rattle.encoder.specs.Calls.{Told, toldEncode}
 use Rattle.encoder.specs.Encoder.{newView}
 use Rattle.encoder.specs.declared.EncodeAnswer.{EncodeAnswer}
 use Rattle.oneshot.specs.Shots.{allRules, shotTold}
-use Rattle.qoa.specs.Coded.{codedEncode}
+use Rattle.codes.specs.Codes.{codedEncode}
 use Rattle.qoa.proofs.Encoding.{Small, encoded-small}
 use Rattle.qoa.proofs.linked.qoa_encode_all.Statement.{statement}
 use Rattle.qoa.proofs.linked.qoa_encode_all.Tie as tie

@@ -6,8 +6,8 @@ use mir.Syntax.{w64}
 use Rattle.wrap.proofs.Integers.{returned}
 use Rattle.oneshot.specs.Shots.{toldNeed}
 use Rattle.oneshot.specs.declared.need.NeedAnswer.{NeedAnswer}
-use Rattle.qoa.specs.Coded.{coded}
-use Rattle.qoa.proofs.Encoding.{told-need-small}
+use Rattle.codes.specs.Codes.{coded}
+use Rattle.oneshot.proofs.Small.{told-need-small}
 use Rattle.qoa.proofs.linked.qoa_encode_need.Statement.{statement}
 use Rattle.qoa.proofs.linked.qoa_encode_need.Tie as tie
 

@@ -12,8 +12,8 @@ use Rattle.header.specs.Refusals.{numberOf}
 use Rattle.header.specs.declared.facts.Facts.{Facts}
 use Rattle.state.specs.Facts.{toldFacts}
 use Rattle.state.specs.declared.FactsAnswer.{FactsAnswer}
-use Rattle.qoa.specs.Coded.{coded, codedSeconds}
-use Rattle.qoa.proofs.Codes.{minus-double, number-small}
+use Rattle.codes.specs.Codes.{coded, codedSeconds}
+use Rattle.codes.proofs.Numbers.{minus-double, number-small}
 use Rattle.qoa.proofs.linked.qoa_facts_seconds.Statement.{statement}
 use Rattle.qoa.proofs.linked.qoa_facts_seconds.Tie as tie
 

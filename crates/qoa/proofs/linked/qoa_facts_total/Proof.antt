@@ -10,7 +10,7 @@ use Rattle.wrap.proofs.Integers.{read-pos, returned}
 use Rattle.header.specs.declared.facts.Facts.{Facts}
 use Rattle.state.specs.Facts.{toldFacts}
 use Rattle.state.specs.declared.FactsAnswer.{FactsAnswer}
-use Rattle.qoa.specs.Coded.{coded}
+use Rattle.codes.specs.Codes.{coded}
 use Rattle.qoa.proofs.linked.qoa_facts_total.Statement.{statement}
 use Rattle.qoa.proofs.linked.qoa_facts_total.Tie as tie
 

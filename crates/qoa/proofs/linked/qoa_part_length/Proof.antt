@@ -8,7 +8,7 @@ use Rattle.wrap.proofs.Integers.{returned}
 use Rattle.header.specs.Part.{toldPart}
 use Rattle.header.specs.declared.part.PartAnswer.{PartAnswer}
 use Rattle.header.proofs.Parts.{part-within}
-use Rattle.qoa.specs.Coded.{coded}
+use Rattle.codes.specs.Codes.{coded}
 use Rattle.qoa.proofs.linked.qoa_part_length.Statement.{statement}
 use Rattle.qoa.proofs.linked.qoa_part_length.Tie as tie
 

@@ -1,10 +1,10 @@
--- `qoa::linked::negated` meets its contract. Assumes nothing.
+-- `codes::negated` meets its contract. Assumes nothing.
 use borrow.Author.Needs.{needs}
 use mathlib.Core.Path.{_∙_}
 use mir.Facts.{toZ-ofZ}
-use Rattle.qoa.proofs.Codes.{minus-fits, minus-is}
-use Rattle.qoa.proofs.linked.negated.Statement.{statement}
-use Rattle.qoa.proofs.linked.negated.Tie as tie
+use Rattle.codes.proofs.Numbers.{minus-fits, minus-is}
+use Rattle.codes.proofs.negated.Statement.{statement}
+use Rattle.codes.proofs.negated.Tie as tie
 
 cast-result : tie.Need-cast-result
 cast-result c = search needs

@@ -5,7 +5,7 @@ use native.Mathlib.Omega.{arith}
 use lib.IntN.{ℤ, pos, negsuc, negℤ}
 use Rattle.word.specs.Rules.{Answer, good, refused}
 use Rattle.encoder.specs.Calls.{Told, refuses, refuses-14, wrote}
-use Rattle.qoa.specs.Coded.{coded, codedEncode}
+use Rattle.codes.specs.Codes.{coded, codedEncode}
 
 -- the number of a refusal that tells no more than it
 abbrev pub Low : ℕ → Type 0

@@ -1,12 +1,12 @@
--- `qoa::linked::minus` meets its contract. Assumes nothing.
+-- `codes::minus` meets its contract. Assumes nothing.
 use borrow.Author.Needs.{needs}
 use Prim.Native.Nat.{ℕ}
 use mathlib.Core.Path.{ap, _∙_}
 use lib.IntN.{negℤ, pos}
 use mir.Syntax.{w64}
 use Rattle.wrap.proofs.Integers.{returned}
-use Rattle.qoa.proofs.linked.minus.Statement.{statement}
-use Rattle.qoa.proofs.linked.minus.Tie as tie
+use Rattle.codes.proofs.minus.Statement.{statement}
+use Rattle.codes.proofs.minus.Tie as tie
 
 number-requires : tie.Need-number-requires
 number-requires c κs = search needs

@@ -1,9 +1,9 @@
--- `qoa::linked::count` meets its contract. Assumes nothing.
+-- `codes::count` meets its contract. Assumes nothing.
 use borrow.Author.Needs.{needs}
 use mir.Syntax.{w64}
 use Rattle.wrap.proofs.Integers.{read-pos}
-use Rattle.qoa.proofs.linked.count.Statement.{statement}
-use Rattle.qoa.proofs.linked.count.Tie as tie
+use Rattle.codes.proofs.count.Statement.{statement}
+use Rattle.codes.proofs.count.Tie as tie
 
 cast-result : tie.Need-cast-result
 cast-result c = search needs

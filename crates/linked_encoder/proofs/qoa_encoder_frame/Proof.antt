@@ -1,0 +1,82 @@
+-- `linked_encoder::qoa_encoder_frame` meets its contract. Assumes nothing.
+use borrow.Author.Needs.{needs}
+use borrow.Author.Tests.{not-false, not-true}
+use native.Mathlib.Omega.{arith}
+use mathlib.Core.Bool.{true}
+use mathlib.Core.Path.{_≡_, sym, subst, ap, _∙_}
+use lib.ListN.{length}
+use mir.Syntax.{w64}
+use Rattle.wrap.proofs.Integers.{returned}
+use Rattle.encoder.specs.Calls.{Told}
+use Rattle.encoder.specs.Encoder.{view}
+use Rattle.oneshot.specs.Parts.{Small}
+use Rattle.block.specs.EncoderBlock.{encoderIn}
+use Rattle.block.specs.Parts.{readableEncoder}
+use Rattle.codes.specs.Codes.{codedEncode}
+use Rattle.block.proofs.Readable.{encoder-facts}
+use Rattle.linked_encoder.proofs.Small.{frame-told-small}
+use Rattle.linked_encoder.proofs.Linking.{encode-read, encode-unread, frame-refuses}
+use Rattle.linked_encoder.proofs.qoa_encoder_frame.Statement.{statement}
+use Rattle.linked_encoder.proofs.qoa_encoder_frame.Tie as tie
+
+-- past the test the block is readable, and its state has its view
+yes : (c : tie.Else1) → readableEncoder (c .before .before .before .before .before .before .args .state .now) ≡ true
+yes c = sym (c .before .before .read-encoder .ensures .readable) ∙ not-false _ (c .if1 .left)
+
+viewed : (c : tie.Else1) → view (c .before .before .read-encoder .result .state) ≡ encoderIn (c .before .before .before .before .before .before .args .state .now)
+viewed c = c .before .before .read-encoder .ensures .state (yes c)
+
+read-encoder-requires : tie.Need-read-encoder-requires
+read-encoder-requires c κs = search needs
+
+minus-requires : tie.Need-minus-requires
+minus-requires c κs = search needs
+
+same-length : tie.Need-same-length
+same-length c = search needs
+
+returns : tie.Need-returns
+returns c =
+    let args = c .before .before .before .before .before .before .before .args in
+    encode-unread (args .state .now) _ _ (args .out .now) (frame-refuses (encoderIn (args .state .now)) (args .samples .now) (args .out .now)) (sym (c .before .before .before .read-encoder .ensures .readable) ∙ not-true _ (c .before .if1 .taken)) _ _ (returned w64 (c .minus .result) (c .minus .ok) (c .minus .ensures))
+
+encode-frame-requires : tie.Need-encode-frame-requires
+encode-frame-requires c κs = search needs
+
+keep-requires : tie.Need-keep-requires
+keep-requires c κs = omega (arith, encoder-facts _ (yes (c .before .before .before .before .before .before .before)) .long)
+
+encoded-requires : tie.Need-encoded-requires
+encoded-requires c κs =
+    let args = c .before .before .before .before .before .before .before .before .before .before .before .before .before .before .before .before .args in
+    subst (λ (t : Told). Small t) (sym (c .before .before .before .before .before .before .before .encode-frame .ensures .told)) (frame-told-small _ (args .samples .now) (length (args .out .now)))
+
+same-length-2 : tie.Need-same-length-2
+same-length-2 c = search needs
+
+same-length-3 : tie.Need-same-length-3
+same-length-3 c = search needs
+
+returns-2 : tie.Need-returns-2
+returns-2 c =
+    let args = c .before .before .before .before .before .before .before .before .before .before .before .before .before .before .before .before .before .args in
+    let done = c .before .before .before .before .before .before .before .before .encode-frame in
+    rw (← viewed (c .before .before .before .before .before .before .before .before .before .before .before), done .ensures .memory)
+    (encode-read (args .state .now) (yes (c .before .before .before .before .before .before .before .before .before .before .before)) _ _ (args .out .now) _
+    (returned w64 (c .encoded .result) (c .encoded .ok) (c .encoded .ensures ∙ ap codedEncode (done .ensures .told)))
+    _ _ _ _ (rw (done .ensures .told) at (c .before .before .before .keep .ensures)) (done .ensures .back))
+
+pub qoa-encoder-frame-spec : {M : Type 1} → statement M
+qoa-encoder-frame-spec =
+    tie.close
+    (tie.spec
+    read-encoder-requires
+    minus-requires
+    same-length
+    returns
+    encode-frame-requires
+    keep-requires
+    encoded-requires
+    same-length-2
+    same-length-3
+    returns-2)

@@ -1,0 +1,46 @@
+-- The encoder's calls on a block: the answer, the block and the output after them. Assumes nothing.
+use Prim.Native.Nat.{ℕ}
+use mathlib.Core.Path.{_≡_}
+use mathlib.Core.Bool.{cond}
+use mathlib.Core.List.{List, [], _∷_, _++_}
+use lib.Dec.{ltb}
+use lib.IntN.{ℤ}
+use lib.ListN.{length}
+use Rattle.word.specs.Rules.{Rule, after, firstOf, good, _gives_}
+use Rattle.encoder.specs.Calls.{Told, ifSome, onto, refuses, refuses-14, wrote}
+use Rattle.encoder.specs.Encoder.{View, createRules, newView}
+use Rattle.block.specs.EncoderBlock.{encoderBytes, encoderSize, isEncoder}
+use Rattle.codes.specs.Codes.{coded, codedEncode}
+
+-- 8 where the block is no state, else what the call tells of its state
+abbrev pub toldBy : List ℕ → Told → Told
+toldBy block told = cond (isEncoder block) told (refuses 8)
+
+-- the block after a call: as it was on a refusal, else the next state's at its start
+abbrev pub blockLeft : Told → View → List ℕ → List ℕ
+blockLeft (wrote n) next block = onto block (encoderBytes next)
+blockLeft (refuses n) next block = block
+blockLeft (refuses-14 count channel) next block = block
+
+-- the output: as it was where the block is no state, else what the call leaves
+abbrev pub outLeft : List ℕ → List ℕ → List ℕ → List ℕ
+outLeft block memory out = cond (isEncoder block) memory out
+
+-- a call that only reads the block
+pub record HeadLinked (block : List ℕ) (told : Told) (memory out : List ℕ) (r : ℤ) (out' : List ℕ) : Type 0 where
+  pub answer : r ≡ codedEncode (toldBy block told)
+  pub bytes : out' ≡ outLeft block memory out
+
+-- a call after which the state goes on
+pub record EncodeLinked (block : List ℕ) (told : Told) (next : View) (memory out : List ℕ) (r : ℤ) (block' out' : List ℕ) : Type 0 where
+  pub answer : r ≡ codedEncode (toldBy block told)
+  pub state : block' ≡ blockLeft (toldBy block told) next block
+  pub bytes : out' ≡ outLeft block memory out
+
+-- creation: 11, 12, 13; 7 where the block is too short
+abbrev pub newRules : ℕ → ℕ → ℕ → ℕ → List Rule
+newRules c rate total room = createRules c rate total ++ ((ltb room encoderSize gives 7) ∷ [])
+
+pub record NewLinked (c rate total : ℕ) (block : List ℕ) (r : ℤ) (block' : List ℕ) : Type 0 where
+  pub answer : r ≡ coded (after (newRules c rate total (length block)) (good 0))
+  pub state : block' ≡ ifSome (firstOf (newRules c rate total (length block))) (λ n. block) (onto block (encoderBytes (newView c rate total)))
