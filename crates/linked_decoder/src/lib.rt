@@ -1,13 +1,26 @@
 // The C interface of a decoder whose state is a block of lent bytes. An answer is a number from 0 on, or minus the number of the refusal.
 ghost use mathlib.Core.Path.{_≡_};
-ghost use Prim.Native.Nat.{_<_, _^_};
-ghost use Rattle.linked_decoder.specs.Numbers.{frameCode};
+ghost use Prim.Native.Nat.{_≤_, _<_, _^_};
+ghost use lib.IntN.{pos};
+ghost use lib.ListN.{length};
+ghost use Rattle.word.specs.Rules.{firstOf, good, _then_};
+ghost use Rattle.word.specs.Written.{written};
+ghost use Rattle.state.specs.Facts.{toldFacts};
+ghost use Rattle.decoder.specs.Frames.{nextAfter, nextFound, nextRules};
+ghost use Rattle.decoder.specs.Into.{comingAt, intoAfter, intoCount, intoRules, storedUnless};
+ghost use Rattle.decoder.specs.Items.{itemAfter, itemOf, itemRules};
+ghost use Rattle.encoder.specs.Calls.{onto};
+ghost use Rattle.block.specs.DecoderBlock.{decoderIn, decoderSize};
+ghost use Rattle.codes.specs.Codes.{codedSeconds};
+ghost use Rattle.linked_decoder.specs.Linked.{DecodeLinked, FactsLinked, OpenLinked, blocked, factsIn, threeFacts};
+ghost use Rattle.linked_decoder.specs.Numbers.{foundCode, frameCode, itemCode};
 use block::DECODER_SIZE;
 use codes::count;
 use codes::minus;
 use decoder::FrameAnswer;
 use decoder::IntoAnswer;
 use decoder::QoaItem;
+use header::facts::Facts;
 use header::refusal::Refusal;
 use state::FactsAnswer;
 use state::FrameFacts;
@@ -15,13 +28,17 @@ use state::OpenAnswer;
 
 // The bytes of a decoder's block.
 #[no_mangle]
-pub extern "C" fn qoa_decoder_size() -> i64 {
+pub extern "C" fn qoa_decoder_size() -> i64
+    ensures { λ r. ⌜ r ≡ pos decoderSize ⌝ }
+{
     count(DECODER_SIZE)
 }
 
 // Opens a file: its refusals, then 7 where the block is too short.
 #[no_mangle]
-pub extern "C" fn qoa_decoder_open(bytes: &[u8], state: &mut [u8]) -> i64 {
+pub extern "C" fn qoa_decoder_open(bytes: &[u8], state: &mut [u8]) -> i64
+    ensures { λ r. ⌜ OpenLinked (now (bytes .entry)) (now (state .entry)) r (now (state .exit)) ⌝ }
+{
     let opened = state::open_decoder(bytes);
     let answer = opened.answer;
     match answer {
@@ -39,7 +56,10 @@ pub extern "C" fn qoa_decoder_open(bytes: &[u8], state: &mut [u8]) -> i64 {
 
 // Samples of the current frame into lent memory: how many.
 #[no_mangle]
-pub extern "C" fn qoa_decoder_into(bytes: &[u8], state: &mut [u8], out: &mut [i16]) -> i64 {
+pub extern "C" fn qoa_decoder_into(bytes: &[u8], state: &mut [u8], out: &mut [i16]) -> i64
+    ensures call { λ r. ⌜ DecodeLinked (now (state .entry)) (intoRules (now (bytes .entry)) (decoderIn (now (state .entry))) (length (now (out .entry)))) (intoCount (decoderIn (now (state .entry))) (length (now (out .entry)))) (intoAfter (now (bytes .entry)) (decoderIn (now (state .entry))) (length (now (out .entry)))) r (now (state .exit)) ⌝ }
+    ensures samples { λ r. ⌜ now (out .exit) ≡ storedUnless (firstOf (blocked (now (state .entry)) (intoRules (now (bytes .entry)) (decoderIn (now (state .entry))) (length (now (out .entry)))))) (written (comingAt (now (bytes .entry)) (decoderIn (now (state .entry)))) (now (out .entry)) 0 1 (intoCount (decoderIn (now (state .entry))) (length (now (out .entry))))) (now (out .entry)) ⌝ }
+{
     let given = block::read_decoder(state);
     if !given.readable {
         return minus(Refusal::BadState);
@@ -68,7 +88,9 @@ fn frame_code(frame: FrameFacts) -> usize
 
 // On to the next frame: 0 at the end, or the frame's number.
 #[no_mangle]
-pub extern "C" fn qoa_decoder_next_frame(bytes: &[u8], state: &mut [u8]) -> i64 {
+pub extern "C" fn qoa_decoder_next_frame(bytes: &[u8], state: &mut [u8]) -> i64
+    ensures { λ r. ⌜ DecodeLinked (now (state .entry)) (nextRules (now (bytes .entry)) (decoderIn (now (state .entry)))) (foundCode (nextFound (now (bytes .entry)) (decoderIn (now (state .entry))))) (nextAfter (now (bytes .entry)) (decoderIn (now (state .entry)))) r (now (state .exit)) ⌝ }
+{
     let given = block::read_decoder(state);
     if !given.readable {
         return minus(Refusal::BadState);
@@ -92,7 +114,9 @@ pub extern "C" fn qoa_decoder_next_frame(bytes: &[u8], state: &mut [u8]) -> i64 
 
 // The next item: 0 at the end, a header or a sample with its mark.
 #[no_mangle]
-pub extern "C" fn qoa_decoder_next_item(bytes: &[u8], state: &mut [u8]) -> i64 {
+pub extern "C" fn qoa_decoder_next_item(bytes: &[u8], state: &mut [u8]) -> i64
+    ensures { λ r. ⌜ DecodeLinked (now (state .entry)) (itemRules (now (bytes .entry)) (decoderIn (now (state .entry)))) (itemCode (itemOf (now (bytes .entry)) (decoderIn (now (state .entry))))) (itemAfter (now (bytes .entry)) (decoderIn (now (state .entry)))) r (now (state .exit)) ⌝ }
+{
     let given = block::read_decoder(state);
     if !given.readable {
         return minus(Refusal::BadState);
@@ -119,7 +143,9 @@ pub extern "C" fn qoa_decoder_next_item(bytes: &[u8], state: &mut [u8]) -> i64 {
 }
 
 // The facts of a block's state.
-fn facts_in(bytes: &[u8], state: &[u8]) -> FactsAnswer {
+fn facts_in(bytes: &[u8], state: &[u8]) -> FactsAnswer
+    ensures { λ r. ⌜ toldFacts r ≡ factsIn (now (state .entry)) (length (now (bytes .entry))) ⌝ }
+{
     let given = block::read_decoder(state);
     if !given.readable {
         return FactsAnswer::Refused(Refusal::BadState);
@@ -128,18 +154,28 @@ fn facts_in(bytes: &[u8], state: &[u8]) -> FactsAnswer {
     state::facts_given(held, bytes)
 }
 
+// Stores the three numbers at the start of lent memory.
+fn put_facts(facts: &mut [u32], known: Facts)
+    requires { ⌜ 3 ≤ length (now facts) ⌝ }
+    ensures { λ r. ⌜ now (facts .exit) ≡ onto (now (facts .entry)) (threeFacts known) ⌝ }
+{
+    facts[0] = known.total;
+    facts[1] = known.channels as u32;
+    facts[2] = known.rate;
+}
+
 // Total, channels and rate into lent memory.
 #[no_mangle]
-pub extern "C" fn qoa_decoder_facts(bytes: &[u8], state: &[u8], facts: &mut [u32]) -> i64 {
+pub extern "C" fn qoa_decoder_facts(bytes: &[u8], state: &[u8], facts: &mut [u32]) -> i64
+    ensures { λ r. ⌜ FactsLinked (now (state .entry)) (length (now (bytes .entry))) (now (facts .entry)) r (now (facts .exit)) ⌝ }
+{
     match facts_in(bytes, state) {
         FactsAnswer::Refused(r) => minus(r),
         FactsAnswer::Known(known) => {
             if facts.len() < 3 {
                 return minus(Refusal::OutputTooSmall);
             }
-            facts[0] = known.total;
-            facts[1] = known.channels as u32;
-            facts[2] = known.rate;
+            put_facts(facts, known);
             0
         }
     }
@@ -147,7 +183,9 @@ pub extern "C" fn qoa_decoder_facts(bytes: &[u8], state: &[u8], facts: &mut [u32
 
 // The length in seconds, 0.0 where there is none; minus 8 on a refusal.
 #[no_mangle]
-pub extern "C" fn qoa_decoder_seconds(bytes: &[u8], state: &[u8]) -> f64 {
+pub extern "C" fn qoa_decoder_seconds(bytes: &[u8], state: &[u8]) -> f64
+    ensures { λ r. ⌜ r ≡ codedSeconds (factsIn (now (state .entry)) (length (now (bytes .entry))) then λ f. good (f .length)) ⌝ }
+{
     match facts_in(bytes, state) {
         FactsAnswer::Refused(r) => minus(r) as f64,
         FactsAnswer::Known(known) => known.length,

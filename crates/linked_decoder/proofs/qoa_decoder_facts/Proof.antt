@@ -1,12 +1,16 @@
+-- `linked_decoder::qoa_decoder_facts` meets its contract. Assumes nothing.
 use borrow.Author.Needs.{needs}
 use native.Mathlib.Omega.{arith}
-use lib.ListN.{length-set}
+use mathlib.Core.Path.{_≡_, refl, sym, ap, _∙_}
+use mir.Syntax.{w64}
+use Rattle.wrap.proofs.Integers.{returned}
+use Rattle.header.specs.declared.facts.Facts.{Facts}
+use Rattle.state.specs.Facts.{toldFacts}
+use Rattle.encoder.specs.Calls.{onto}
+use Rattle.linked_decoder.specs.Linked.{threeFacts}
+use Rattle.linked_decoder.proofs.Linking.{facts-bad, facts-done, facts-good, facts-refused, facts-short}
 use Rattle.linked_decoder.proofs.qoa_decoder_facts.Statement.{statement}
 use Rattle.linked_decoder.proofs.qoa_decoder_facts.Tie as tie
-use Rattle.linked_decoder.proofs.qoa_decoder_facts.Reads as reads
-use Rattle.linked_decoder.proofs.qoa_decoder_facts.Lts as lts
-use Rattle.codes.proofs.minus.Reads as minus-reads
-use Rattle.linked_decoder.proofs.facts_in.Reads as facts-in-reads
 
 facts-in-requires : tie.Need-facts-in-requires
 facts-in-requires c κs = search needs
@@ -24,28 +28,29 @@ minus-requires-2 : tie.Need-minus-requires-2
 minus-requires-2 c κs = search needs
 
 returns : tie.Need-returns
-returns c = search needs
+returns c =
+    let args = c .before .before .before .before .before .before .before .before .before .args in
+    let told = sym (ap toldFacts (c .before .before .before .known .given .1)) ∙ c .before .before .before .before .before .facts-in .ensures in
+    facts-refused _ _ (args .facts .now) 7 _ (facts-short _ _ (args .facts .now) _ told (c .before .if1 .taken)) (returned w64 (c .minus2 .result) (c .minus2 .ok) (c .minus2 .ensures))
 
-slice-write-facts : tie.Need-slice-write-facts
-slice-write-facts c = search needs
-
-cast-facts : tie.Need-cast-facts
-cast-facts c = search needs
-
-slice-write-facts-2 : tie.Need-slice-write-facts-2
-slice-write-facts-2 c = simp length-set (omega (arith, c .before .if1 .left))
-
-slice-write-facts-3 : tie.Need-slice-write-facts-3
-slice-write-facts-3 c = search needs
+put-facts-requires : tie.Need-put-facts-requires
+put-facts-requires c κs = search needs
 
 returns-2 : tie.Need-returns-2
-returns-2 c = search needs
+returns-2 c =
+    let args = c .before .before .before .before .before .before .before .before .args in
+    let told = sym (ap toldFacts (c .before .before .r .given .1)) ∙ c .before .before .before .before .facts-in .ensures in
+    facts-refused _ _ (args .facts .now) _ _ (facts-bad _ _ (args .facts .now) _ told) (returned w64 (c .minus .result) (c .minus .ok) (c .minus .ensures))
 
 same-length : tie.Need-same-length
 same-length c = search needs
 
 returns-3 : tie.Need-returns-3
-returns-3 c = search needs
+returns-3 c =
+    let args = c .before .before .before .before .before .before .before .before .before .before .before .before .args in
+    let told = sym (ap toldFacts (c .before .before .before .before .before .before .known .given .1)) ∙ c .before .before .before .before .before .before .before .before .facts-in .ensures in
+    let found = facts-good _ _ (args .facts .now) _ told (c .before .before .before .before .if1 .left) in
+    facts-done _ _ (args .facts .now) _ _ (found .0) refl (c .before .before .put-facts .ensures ∙ ap (λ (f : Facts). onto (args .facts .now) (threeFacts f)) (sym (found .1)))
 
 pub qoa-decoder-facts-spec : {M : Type 1} → statement M
 qoa-decoder-facts-spec =
@@ -57,10 +62,7 @@ qoa-decoder-facts-spec =
     enum-known-known
     minus-requires-2
     returns
-    slice-write-facts
-    cast-facts
-    slice-write-facts-2
-    slice-write-facts-3
+    put-facts-requires
     returns-2
     same-length
     returns-3)

@@ -1,20 +1,32 @@
 -- `linked_decoder::qoa_decoder_next_frame` meets its contract. Assumes nothing.
 use borrow.Author.Needs.{needs}
-use borrow.Author.Tests.{not-false}
+use borrow.Author.Tests.{not-false, not-true}
 use native.Mathlib.Omega.{arith}
 use mathlib.Core.Bool.{true}
-use mathlib.Core.Path.{_≡_, sym, ap, _∙_}
+use mathlib.Core.Path.{_≡_, refl, sym, ap, _∙_}
+use lib.IntN.{pos}
+use lib.ListN.{length}
+use mir.Syntax.{w64}
+use Prim.Native.Nat.{ℕ}
+use Rattle.wrap.proofs.Integers.{returned}
+use Rattle.word.proofs.Rules.{after-refused}
+use Rattle.state.specs.View.{View, view}
+use Rattle.encoder.specs.Calls.{onto}
+use Rattle.block.specs.DecoderBlock.{decoderBytes, decoderIn}
 use Rattle.block.specs.Parts.{readableDecoder}
-use Rattle.block.proofs.Readable.{DecoderFacts, decoder-facts}
+use Rattle.block.proofs.Readable.{decoder-facts}
+use Rattle.decoder.specs.Frames.{Found, nextRules, toldFrame}
+use Rattle.linked_decoder.specs.Numbers.{foundCode}
+use Rattle.linked_decoder.proofs.Linking.{accepted, leaves, linked-done, linked-refused, read-rules, unread}
 use Rattle.linked_decoder.proofs.qoa_decoder_next_frame.Statement.{statement}
 use Rattle.linked_decoder.proofs.qoa_decoder_next_frame.Tie as tie
 
--- past the test the block is readable
+-- past the test the block is readable, and its state has its view
 yes : (c : tie.Else1) → readableDecoder (c .before .before .before .before .before .before .args .state .now) ≡ true
 yes c = sym (c .before .before .read-decoder .ensures .readable) ∙ not-false _ (c .if1 .left)
 
-facts : (c : tie.Else1) → DecoderFacts (c .before .before .before .before .before .before .args .state .now)
-facts c = decoder-facts _ (yes c)
+viewed : (c : tie.Else1) → view (c .before .before .read-decoder .result .state) ≡ decoderIn (c .before .before .before .before .before .before .args .state .now)
+viewed c = c .before .before .read-decoder .ensures .state (yes c)
 
 read-decoder-requires : tie.Need-read-decoder-requires
 read-decoder-requires c κs = search needs
@@ -26,7 +38,10 @@ same-length : tie.Need-same-length
 same-length c = search needs
 
 returns : tie.Need-returns
-returns c = search needs
+unfolding nextRules
+returns c =
+    let args = c .before .before .before .before .before .before .before .args in
+    linked-refused (args .state .now) _ _ _ 8 _ (unread (args .state .now) (length (args .bytes .now)) _ (sym (c .before .before .before .read-decoder .ensures .readable) ∙ not-true _ (c .before .if1 .taken))) (returned w64 (c .minus .result) (c .minus .ok) (c .minus .ensures))
 
 next-frame-requires : tie.Need-next-frame-requires
 next-frame-requires c κs = search needs
@@ -41,37 +56,56 @@ enum-told : tie.Need-enum-told
 enum-told c = search needs
 
 write-decoder-requires : tie.Need-write-decoder-requires
-write-decoder-requires c κs = omega (arith, facts (c .before .before .before .before .before .before) .long)
+write-decoder-requires c κs = omega (arith, decoder-facts _ (yes (c .before .before .before .before .before .before)) .long)
 
 enum-known-answer-2 : tie.Need-enum-known-answer-2
 enum-known-answer-2 c = search needs
 
 write-decoder-requires-2 : tie.Need-write-decoder-requires-2
-write-decoder-requires-2 c κs = omega (arith, facts (c .before .before .before .before .before .before .before) .long)
+write-decoder-requires-2 c κs = omega (arith, decoder-facts _ (yes (c .before .before .before .before .before .before .before)) .long)
 
 frame-code-requires : tie.Need-frame-code-requires
 frame-code-requires c κs = search needs
 
 count-requires : tie.Need-count-requires
-count-requires c κs = omega (arith, c .frame-code .ensures .1)
+count-requires c κs = search needs
 
 same-length-2 : tie.Need-same-length-2
 same-length-2 c = search needs
 
 returns-2 : tie.Need-returns-2
-returns-2 c = search needs
+returns-2 c =
+    let args = c .before .before .before .before .before .before .before .before .before .before .before .before .before .args in
+    let done = c .before .before .before .before .before .next-frame in
+    let fired = after-refused _ _ _ (sym (done .ensures .told) ∙ ap toldFrame (c .before .before .answer .given .1)) in
+    rw (← viewed (c .before .before .before .before .before .before .before)) (linked-refused (args .state .now) _ _ _ _ _ (read-rules (args .state .now) _ (yes (c .before .before .before .before .before .before .before)) ∙ fired) (returned w64 (c .minus2 .result) (c .minus2 .ok) (c .minus2 .ensures)))
 
 same-length-3 : tie.Need-same-length-3
 same-length-3 c = search needs
 
 returns-3 : tie.Need-returns-3
-returns-3 c = search needs
+returns-3 c =
+    let args = c .before .before .before .before .before .before .before .before .before .before .before .before .before .before .before .args in
+    let done = c .before .before .before .before .before .before .before .next-frame in
+    let found = accepted _ _ _ (sym (ap toldFrame (c .before .before .before .before .enum-told .given .1)) ∙ done .ensures .told) in
+    rw (← viewed (c .before .before .before .before .before .before .before .before .before)) (
+      linked-done (args .state .now) _ _ _ _ _ (read-rules (args .state .now) _ (yes (c .before .before .before .before .before .before .before .before .before)) ∙ found .0) (ap (λ (f : Found). pos (foundCode f)) (sym (found .1)))
+          ((c .before .before .write-decoder) .ensures ∙ ap (λ (v : View). onto (args .state .now) (decoderBytes v)) (leaves _ _ _ _ (found .0) (done .ensures .left)))
+    )
 
 same-length-4 : tie.Need-same-length-4
 same-length-4 c = search needs
 
 returns-4 : tie.Need-returns-4
-returns-4 c = search needs
+returns-4 c =
+    let args = c .before .before .before .before .before .before .before .before .before .before .before .before .before .before .before .before .before .before .args in
+    let done = c .before .before .before .before .before .before .before .before .before .before .next-frame in
+    let found = accepted _ _ _ (sym (ap toldFrame (c .before .before .before .before .before .before .before .answer2 .given .1)) ∙ done .ensures .told) in
+    let code = c .count .ensures ∙ ap pos (c .before .frame-code .ensures .0) ∙ ap (λ (f : Found). pos (foundCode f)) (sym (found .1)) in
+    rw (← viewed (c .before .before .before .before .before .before .before .before .before .before .before .before)) (
+      linked-done (args .state .now) _ _ _ _ _ (read-rules (args .state .now) _ (yes (c .before .before .before .before .before .before .before .before .before .before .before .before)) ∙ found .0) (returned w64 (c .count .result) (c .count .ok) code)
+          ((c .before .before .before .before .write-decoder2) .ensures ∙ ap (λ (v : View). onto (args .state .now) (decoderBytes v)) (leaves _ _ _ _ (found .0) (done .ensures .left)))
+    )
 
 pub qoa-decoder-next-frame-spec : {M : Type 1} → statement M
 qoa-decoder-next-frame-spec =

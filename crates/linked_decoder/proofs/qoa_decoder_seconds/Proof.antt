@@ -1,18 +1,19 @@
+-- `linked_decoder::qoa_decoder_seconds` meets its contract. Assumes nothing.
 use borrow.Author.Needs.{needs}
-use mathlib.Core.Path.{_≡_}
+use mathlib.Core.Path.{_≡_, sym, ap, _∙_}
+use lib.Ieee.{Float, binary64, ofInt}
 use mir.Syntax.{w64}
 use mir.Val.{ofZ, toZ}
 use Rattle.wrap.proofs.Integers.{returned}
-use Rattle.word.specs.Rules.{refused}
+use Rattle.word.specs.Rules.{Answer, good, refused, _then_}
 use Rattle.header.specs.Refusals.{numberOf}
-use Rattle.codes.specs.Codes.{coded}
+use Rattle.header.specs.declared.facts.Facts.{Facts}
+use Rattle.state.specs.Facts.{toldFacts}
+use Rattle.state.specs.declared.FactsAnswer.{FactsAnswer}
+use Rattle.codes.specs.Codes.{coded, codedSeconds}
 use Rattle.codes.proofs.Numbers.{minus-double, number-small}
 use Rattle.linked_decoder.proofs.qoa_decoder_seconds.Statement.{statement}
 use Rattle.linked_decoder.proofs.qoa_decoder_seconds.Tie as tie
-use Rattle.linked_decoder.proofs.qoa_decoder_seconds.Reads as reads
-use Rattle.linked_decoder.proofs.qoa_decoder_seconds.Lts as lts
-use Rattle.codes.proofs.minus.Reads as minus-reads
-use Rattle.linked_decoder.proofs.facts_in.Reads as facts-in-reads
 
 facts-in-requires : tie.Need-facts-in-requires
 facts-in-requires c κs = search needs
@@ -27,6 +28,10 @@ minus-requires c κs = search needs
 read-back : (c : tie.After-row-known) → toZ w64 (ofZ w64 (c .before .minus .result)) ≡ coded (refused (numberOf (c .before .before .before .r .given .0 .0)))
 read-back c = returned w64 (c .before .minus .result) (c .before .minus .ok) (c .before .minus .ensures)
 
+-- the code of the length that the facts tell
+abbrev part : Answer Facts → Float
+part a = codedSeconds (a then λ f. good (f .length))
+
 int-to-float-result : tie.Need-int-to-float-result
 int-to-float-result c = rw (read-back c) (minus-double _ (number-small (c .before .before .before .r .given .0 .0)))
 
@@ -34,10 +39,10 @@ enum-known-known : tie.Need-enum-known-known
 enum-known-known c = search needs
 
 returns : tie.Need-returns
-returns c = search needs
+returns c = ap (ofInt binary64) (read-back c) ∙ ap (λ (a : FactsAnswer). part (toldFacts a)) (sym (c .before .before .before .r .given .1)) ∙ ap part (c .before .before .before .before .before .facts-in .ensures)
 
 returns-2 : tie.Need-returns-2
-returns-2 c = search needs
+returns-2 c = ap (λ (a : FactsAnswer). part (toldFacts a)) (sym (c .before .known .given .1)) ∙ ap part (c .before .before .before .facts-in .ensures)
 
 pub qoa-decoder-seconds-spec : {M : Type 1} → statement M
 qoa-decoder-seconds-spec =

@@ -1,0 +1,56 @@
+-- The decoder's calls on a block: the answer, and the block and other lent memory after them. Assumes nothing.
+use Prim.Native.Nat.{ℕ}
+use mathlib.Core.Path.{_≡_}
+use mathlib.Core.Bool.{not}
+use mathlib.Core.List.{List, [], _∷_, _++_}
+use mathlib.Core.Option.{Option, none, some}
+use lib.Dec.{ltb}
+use lib.IntN.{ℤ}
+use lib.ListN.{length}
+use Rattle.word.specs.Rules.{Answer, Rule, after, firstOf, good, _gives_}
+use Rattle.header.specs.declared.facts.Facts.{Facts}
+use Rattle.state.specs.Facts.{factsFor}
+use Rattle.state.specs.Opening.{openRules, openedAt}
+use Rattle.state.specs.States.{goodState}
+use Rattle.state.specs.View.{View}
+use Rattle.encoder.specs.Calls.{ifSome, onto}
+use Rattle.block.specs.DecoderBlock.{decoderBytes, decoderIn, decoderSize, isDecoder}
+use Rattle.codes.specs.Codes.{coded}
+
+-- 8 where the block is no state, then a call's own rules
+abbrev pub blocked : List ℕ → List Rule → List Rule
+blocked block rules = (not (isDecoder block) gives 8) ∷ rules
+
+-- the block after a call: as it was on a refusal, else the next state's at its start
+abbrev pub blockLeft : Option ℕ → View → List ℕ → List ℕ
+blockLeft none next block = onto block (decoderBytes next)
+blockLeft (some n) next block = block
+
+-- a call with such rules, which answers with a number and after which the state goes on
+pub record DecodeLinked (block : List ℕ) (rules : List Rule) (number : ℕ) (next : View) (r : ℤ) (block' : List ℕ) : Type 0 where
+  pub answer : r ≡ coded (after (blocked block rules) (good number))
+  pub state : block' ≡ blockLeft (firstOf (blocked block rules)) next block
+
+-- ---- opening: the file's refusals; 7 where the block is too short
+
+unfoldable pub openingRules : List ℕ → ℕ → List Rule
+openingRules bs room = openRules bs ++ ((ltb room decoderSize gives 7) ∷ [])
+
+pub record OpenLinked (bs block : List ℕ) (r : ℤ) (block' : List ℕ) : Type 0 where
+  pub answer : r ≡ coded (after (openingRules bs (length block)) (good 0))
+  pub state : block' ≡ blockLeft (firstOf (openingRules bs (length block))) (openedAt bs) block
+
+-- ---- facts: 8; 7 where there is no room for three numbers
+
+unfoldable pub factsIn : List ℕ → ℕ → Answer Facts
+factsIn block bytes = after (blocked block ((not (goodState (decoderIn block) bytes) gives 8) ∷ [])) (good (factsFor (decoderIn block .mode) (decoderIn block .frame)))
+
+unfoldable pub factsRules : List ℕ → ℕ → ℕ → List Rule
+factsRules block bytes room = blocked block ((not (goodState (decoderIn block) bytes) gives 8) ∷ (ltb room 3 gives 7) ∷ [])
+
+abbrev pub threeFacts : Facts → List ℕ
+threeFacts f = f .total ∷ f .channels ∷ f .rate ∷ []
+
+pub record FactsLinked (block : List ℕ) (bytes : ℕ) (facts : List ℕ) (r : ℤ) (facts' : List ℕ) : Type 0 where
+  pub answer : r ≡ coded (after (factsRules block bytes (length facts)) (good 0))
+  pub told : facts' ≡ ifSome (firstOf (factsRules block bytes (length facts))) (λ n. facts) (onto facts (threeFacts (factsFor (decoderIn block .mode) (decoderIn block .frame))))
