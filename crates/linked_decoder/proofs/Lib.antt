@@ -1,2 +1,3 @@
--- Laws that the proofs share.
+-- Laws that the proofs share, and that each call has one answer.
 pub mod Linking
+pub mod Settled

@@ -8,14 +8,19 @@ use lib.Dec.{ltb}
 use lib.IntN.{ℤ}
 use lib.ListN.{length}
 use Rattle.word.specs.Rules.{Answer, Rule, after, firstOf, good, _gives_}
+use Rattle.word.specs.Written.{written}
 use Rattle.header.specs.declared.facts.Facts.{Facts}
 use Rattle.state.specs.Facts.{factsFor}
 use Rattle.state.specs.Opening.{openRules, openedAt}
 use Rattle.state.specs.States.{goodState}
 use Rattle.state.specs.View.{View}
+use Rattle.decoder.specs.Frames.{nextAfter, nextFound, nextRules}
+use Rattle.decoder.specs.Into.{comingAt, intoAfter, intoCount, intoRules, storedUnless}
+use Rattle.decoder.specs.Items.{itemAfter, itemOf, itemRules}
 use Rattle.encoder.specs.Calls.{ifSome, onto}
 use Rattle.block.specs.DecoderBlock.{decoderBytes, decoderIn, decoderSize, isDecoder}
 use Rattle.codes.specs.Codes.{coded}
+use Rattle.linked_decoder.specs.Numbers.{foundCode, itemCode}
 
 -- 8 where the block is no state, then a call's own rules
 abbrev pub blocked : List ℕ → List Rule → List Rule
@@ -30,6 +35,18 @@ blockLeft (some n) next block = block
 pub record DecodeLinked (block : List ℕ) (rules : List Rule) (number : ℕ) (next : View) (r : ℤ) (block' : List ℕ) : Type 0 where
   pub answer : r ≡ coded (after (blocked block rules) (good number))
   pub state : block' ≡ blockLeft (firstOf (blocked block rules)) next block
+
+-- ---- samples into lent memory, the next frame, the next item
+
+pub record IntoLinked (bs block : List ℕ) (out : List ℤ) (r : ℤ) (block' : List ℕ) (out' : List ℤ) : Type 0 where
+  pub call : DecodeLinked block (intoRules bs (decoderIn block) (length out)) (intoCount (decoderIn block) (length out)) (intoAfter bs (decoderIn block) (length out)) r block'
+  pub samples : out' ≡ storedUnless (firstOf (blocked block (intoRules bs (decoderIn block) (length out)))) (written (comingAt bs (decoderIn block)) out 0 1 (intoCount (decoderIn block) (length out))) out
+
+abbrev pub FrameLinked : List ℕ → List ℕ → ℤ → List ℕ → Type 0
+FrameLinked bs block r block' = DecodeLinked block (nextRules bs (decoderIn block)) (foundCode (nextFound bs (decoderIn block))) (nextAfter bs (decoderIn block)) r block'
+
+abbrev pub ItemLinked : List ℕ → List ℕ → ℤ → List ℕ → Type 0
+ItemLinked bs block r block' = DecodeLinked block (itemRules bs (decoderIn block)) (itemCode (itemOf bs (decoderIn block))) (itemAfter bs (decoderIn block)) r block'
 
 -- ---- opening: the file's refusals; 7 where the block is too short
 

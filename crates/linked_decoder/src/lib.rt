@@ -3,17 +3,13 @@ ghost use mathlib.Core.Path.{_≡_};
 ghost use Prim.Native.Nat.{_≤_, _<_, _^_};
 ghost use lib.IntN.{pos};
 ghost use lib.ListN.{length};
-ghost use Rattle.word.specs.Rules.{firstOf, good, _then_};
-ghost use Rattle.word.specs.Written.{written};
+ghost use Rattle.word.specs.Rules.{good, _then_};
 ghost use Rattle.state.specs.Facts.{toldFacts};
-ghost use Rattle.decoder.specs.Frames.{nextAfter, nextFound, nextRules};
-ghost use Rattle.decoder.specs.Into.{comingAt, intoAfter, intoCount, intoRules, storedUnless};
-ghost use Rattle.decoder.specs.Items.{itemAfter, itemOf, itemRules};
 ghost use Rattle.encoder.specs.Calls.{onto};
-ghost use Rattle.block.specs.DecoderBlock.{decoderIn, decoderSize};
+ghost use Rattle.block.specs.DecoderBlock.{decoderSize};
 ghost use Rattle.codes.specs.Codes.{codedSeconds};
-ghost use Rattle.linked_decoder.specs.Linked.{DecodeLinked, FactsLinked, OpenLinked, blocked, factsIn, threeFacts};
-ghost use Rattle.linked_decoder.specs.Numbers.{foundCode, frameCode, itemCode};
+ghost use Rattle.linked_decoder.specs.Linked.{FactsLinked, FrameLinked, IntoLinked, ItemLinked, OpenLinked, factsIn, threeFacts};
+ghost use Rattle.linked_decoder.specs.Numbers.{frameCode};
 use block::DECODER_SIZE;
 use codes::count;
 use codes::minus;
@@ -57,8 +53,7 @@ pub extern "C" fn qoa_decoder_open(bytes: &[u8], state: &mut [u8]) -> i64
 // Samples of the current frame into lent memory: how many.
 #[no_mangle]
 pub extern "C" fn qoa_decoder_into(bytes: &[u8], state: &mut [u8], out: &mut [i16]) -> i64
-    ensures call { λ r. ⌜ DecodeLinked (now (state .entry)) (intoRules (now (bytes .entry)) (decoderIn (now (state .entry))) (length (now (out .entry)))) (intoCount (decoderIn (now (state .entry))) (length (now (out .entry)))) (intoAfter (now (bytes .entry)) (decoderIn (now (state .entry))) (length (now (out .entry)))) r (now (state .exit)) ⌝ }
-    ensures samples { λ r. ⌜ now (out .exit) ≡ storedUnless (firstOf (blocked (now (state .entry)) (intoRules (now (bytes .entry)) (decoderIn (now (state .entry))) (length (now (out .entry)))))) (written (comingAt (now (bytes .entry)) (decoderIn (now (state .entry)))) (now (out .entry)) 0 1 (intoCount (decoderIn (now (state .entry))) (length (now (out .entry))))) (now (out .entry)) ⌝ }
+    ensures { λ r. ⌜ IntoLinked (now (bytes .entry)) (now (state .entry)) (now (out .entry)) r (now (state .exit)) (now (out .exit)) ⌝ }
 {
     let given = block::read_decoder(state);
     if !given.readable {
@@ -89,7 +84,7 @@ fn frame_code(frame: FrameFacts) -> usize
 // On to the next frame: 0 at the end, or the frame's number.
 #[no_mangle]
 pub extern "C" fn qoa_decoder_next_frame(bytes: &[u8], state: &mut [u8]) -> i64
-    ensures { λ r. ⌜ DecodeLinked (now (state .entry)) (nextRules (now (bytes .entry)) (decoderIn (now (state .entry)))) (foundCode (nextFound (now (bytes .entry)) (decoderIn (now (state .entry))))) (nextAfter (now (bytes .entry)) (decoderIn (now (state .entry)))) r (now (state .exit)) ⌝ }
+    ensures { λ r. ⌜ FrameLinked (now (bytes .entry)) (now (state .entry)) r (now (state .exit)) ⌝ }
 {
     let given = block::read_decoder(state);
     if !given.readable {
@@ -115,7 +110,7 @@ pub extern "C" fn qoa_decoder_next_frame(bytes: &[u8], state: &mut [u8]) -> i64
 // The next item: 0 at the end, a header or a sample with its mark.
 #[no_mangle]
 pub extern "C" fn qoa_decoder_next_item(bytes: &[u8], state: &mut [u8]) -> i64
-    ensures { λ r. ⌜ DecodeLinked (now (state .entry)) (itemRules (now (bytes .entry)) (decoderIn (now (state .entry)))) (itemCode (itemOf (now (bytes .entry)) (decoderIn (now (state .entry))))) (itemAfter (now (bytes .entry)) (decoderIn (now (state .entry)))) r (now (state .exit)) ⌝ }
+    ensures { λ r. ⌜ ItemLinked (now (bytes .entry)) (now (state .entry)) r (now (state .exit)) ⌝ }
 {
     let given = block::read_decoder(state);
     if !given.readable {

@@ -1,3 +1,4 @@
--- Laws that the proofs share.
+-- Laws that the proofs share, and that each call has one answer.
 pub mod Small
 pub mod Linking
+pub mod Settled

@@ -7,9 +7,12 @@ use lib.Dec.{ltb}
 use lib.IntN.{ℤ}
 use lib.ListN.{length}
 use Rattle.word.specs.Rules.{Rule, after, firstOf, good, _gives_}
-use Rattle.encoder.specs.Calls.{Told, ifSome, onto, refuses, refuses-14, wrote}
+use Rattle.encoder.specs.Calls.{Told, frameMemory, frameTold, headMemory, headTold, ifSome, onto, refuses, refuses-14, wrote}
 use Rattle.encoder.specs.Encoder.{View, createRules, newView}
-use Rattle.block.specs.EncoderBlock.{encoderBytes, encoderSize, isEncoder}
+use Rattle.encoder.specs.Frame.{afterFrame}
+use Rattle.oneshot.specs.OneShot.{before, framesOf, shotRules}
+use Rattle.oneshot.specs.Shots.{shotMemory, shotTold}
+use Rattle.block.specs.EncoderBlock.{encoderBytes, encoderIn, encoderSize, isEncoder}
 use Rattle.codes.specs.Codes.{coded, codedEncode}
 
 -- 8 where the block is no state, else what the call tells of its state
@@ -36,6 +39,20 @@ pub record EncodeLinked (block : List ℕ) (told : Told) (next : View) (memory o
   pub answer : r ≡ codedEncode (toldBy block told)
   pub state : block' ≡ blockLeft (toldBy block told) next block
   pub bytes : out' ≡ outLeft block memory out
+
+-- the file header, a frame, a whole file
+abbrev pub HeaderLinked : List ℕ → List ℕ → ℤ → List ℕ → Type 0
+HeaderLinked block out r out' = HeadLinked block (headTold (encoderIn block) (length out)) (headMemory (encoderIn block) out) out r out'
+
+abbrev pub FrameLinked : List ℕ → List ℤ → List ℕ → ℤ → List ℕ → List ℕ → Type 0
+FrameLinked block samples out r block' out' =
+    EncodeLinked block (frameTold (encoderIn block) samples (length out)) (afterFrame (encoderIn block) samples) (frameMemory (encoderIn block) samples out) out r block' out'
+
+abbrev pub FileLinked : List ℕ → List ℤ → List ℕ → ℤ → List ℕ → List ℕ → Type 0
+FileLinked block samples out r block' out' =
+    let v = encoderIn block in
+    let rules = shotRules v samples (length out) in
+    EncodeLinked block (shotTold rules v samples) (before v samples (framesOf v)) (shotMemory rules v samples out) out r block' out'
 
 -- creation: 11, 12, 13; 7 where the block is too short
 abbrev pub newRules : ℕ → ℕ → ℕ → ℕ → List Rule

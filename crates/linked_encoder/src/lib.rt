@@ -3,13 +3,10 @@ ghost use mathlib.Core.Path.{_≡_};
 ghost use Prim.Native.Nat.{_≤_};
 ghost use lib.IntN.{pos};
 ghost use lib.ListN.{length};
-ghost use Rattle.encoder.specs.Calls.{frameMemory, frameTold, headMemory, headTold, toldEncode};
+ghost use Rattle.encoder.specs.Calls.{toldEncode};
 ghost use Rattle.encoder.specs.Encoder.{view};
-ghost use Rattle.encoder.specs.Frame.{afterFrame};
-ghost use Rattle.oneshot.specs.OneShot.{before, framesOf, shotRules};
-ghost use Rattle.oneshot.specs.Shots.{shotMemory, shotTold};
-ghost use Rattle.block.specs.EncoderBlock.{encoderIn, encoderSize};
-ghost use Rattle.linked_encoder.specs.Linked.{EncodeLinked, HeadLinked, NewLinked, blockLeft};
+ghost use Rattle.block.specs.EncoderBlock.{encoderSize};
+ghost use Rattle.linked_encoder.specs.Linked.{FileLinked, FrameLinked, HeaderLinked, NewLinked, blockLeft};
 use block::ENCODER_SIZE;
 use codes::count;
 use codes::encoded;
@@ -50,7 +47,7 @@ pub extern "C" fn qoa_encoder_new(channels: u8, rate: u32, total: u32, state: &m
 // The file header into lent bytes: how many.
 #[no_mangle]
 pub extern "C" fn qoa_encoder_header(state: &[u8], out: &mut [u8]) -> i64
-    ensures { λ r. ⌜ HeadLinked (now (state .entry)) (headTold (encoderIn (now (state .entry))) (length (now (out .entry)))) (headMemory (encoderIn (now (state .entry))) (now (out .entry))) (now (out .entry)) r (now (out .exit)) ⌝ }
+    ensures { λ r. ⌜ HeaderLinked (now (state .entry)) (now (out .entry)) r (now (out .exit)) ⌝ }
 {
     let given = block::read_encoder(state);
     if !given.readable {
@@ -75,7 +72,7 @@ fn keep(state: &mut [u8], answer: EncodeAnswer, after: QoaEncoder)
 // A frame into lent bytes: how many. The state goes on.
 #[no_mangle]
 pub extern "C" fn qoa_encoder_frame(state: &mut [u8], samples: &[i16], out: &mut [u8]) -> i64
-    ensures { λ r. ⌜ EncodeLinked (now (state .entry)) (frameTold (encoderIn (now (state .entry))) (now (samples .entry)) (length (now (out .entry)))) (afterFrame (encoderIn (now (state .entry))) (now (samples .entry))) (frameMemory (encoderIn (now (state .entry))) (now (samples .entry)) (now (out .entry))) (now (out .entry)) r (now (state .exit)) (now (out .exit)) ⌝ }
+    ensures { λ r. ⌜ FrameLinked (now (state .entry)) (now (samples .entry)) (now (out .entry)) r (now (state .exit)) (now (out .exit)) ⌝ }
 {
     let given = block::read_encoder(state);
     if !given.readable {
@@ -92,7 +89,7 @@ pub extern "C" fn qoa_encoder_frame(state: &mut [u8], samples: &[i16], out: &mut
 // A whole file into lent bytes: how many. The state goes on.
 #[no_mangle]
 pub extern "C" fn qoa_encoder_file(state: &mut [u8], samples: &[i16], out: &mut [u8]) -> i64
-    ensures { λ r. ⌜ EncodeLinked (now (state .entry)) (shotTold (shotRules (encoderIn (now (state .entry))) (now (samples .entry)) (length (now (out .entry)))) (encoderIn (now (state .entry))) (now (samples .entry))) (before (encoderIn (now (state .entry))) (now (samples .entry)) (framesOf (encoderIn (now (state .entry))))) (shotMemory (shotRules (encoderIn (now (state .entry))) (now (samples .entry)) (length (now (out .entry)))) (encoderIn (now (state .entry))) (now (samples .entry)) (now (out .entry))) (now (out .entry)) r (now (state .exit)) (now (out .exit)) ⌝ }
+    ensures { λ r. ⌜ FileLinked (now (state .entry)) (now (samples .entry)) (now (out .entry)) r (now (state .exit)) (now (out .exit)) ⌝ }
 {
     let given = block::read_encoder(state);
     if !given.readable {

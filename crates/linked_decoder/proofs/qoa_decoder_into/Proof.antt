@@ -41,7 +41,7 @@ unfolding intoRules
 returns c =
     let args = c .before .before .before .before .before .before .before .args in
     let none = unread (args .state .now) (length (args .bytes .now)) _ (sym (c .before .before .before .read-decoder .ensures .readable) ∙ not-true _ (c .before .if1 .taken)) in
-    (linked-refused (args .state .now) _ _ _ 8 _ none (returned w64 (c .minus .result) (c .minus .ok) (c .minus .ensures)), rw none)
+    record { call = linked-refused (args .state .now) _ _ _ 8 _ none (returned w64 (c .minus .result) (c .minus .ok) (c .minus .ensures)); samples = rw none }
 
 decode-into-requires : tie.Need-decode-into-requires
 decode-into-requires c κs = search needs
@@ -75,8 +75,7 @@ returns-2 c =
     let done = c .before .before .before .before .before .decode-into in
     let fired = after-refused _ _ _ (sym (done .ensures .told) ∙ ap toldInto (c .before .before .answer .given .1)) in
     let same = read-rules (args .state .now) _ (yes (c .before .before .before .before .before .before .before .before)) in
-    rw (← viewed (c .before .before .before .before .before .before .before .before))
-    (linked-refused (args .state .now) _ _ _ _ _ (same ∙ fired) (returned w64 (c .minus2 .result) (c .minus2 .ok) (c .minus2 .ensures)), rw same (done .ensures .stored))
+    record { call = rw (← viewed (c .before .before .before .before .before .before .before .before)) (linked-refused (args .state .now) _ _ _ _ _ (same ∙ fired) (returned w64 (c .minus2 .result) (c .minus2 .ok) (c .minus2 .ensures))); samples = rw (← viewed (c .before .before .before .before .before .before .before .before)) (rw same (done .ensures .stored)) }
 
 same-length-4 : tie.Need-same-length-4
 same-length-4 c = search needs
@@ -90,11 +89,11 @@ returns-3 c =
     let done = c .before .before .before .before .before .before .before .before .before .before .decode-into in
     let found = accepted _ _ _ (sym (ap toldInto (c .before .before .before .before .before .before .before .answer2 .given .1)) ∙ done .ensures .told) in
     let same = read-rules (args .state .now) _ (yes (c .before .before .before .before .before .before .before .before .before .before .before .before .before)) in
-    rw (← viewed (c .before .before .before .before .before .before .before .before .before .before .before .before .before)) (
-      linked-done (args .state .now) _ _ _ _ _ (same ∙ found .0) (returned w64 (c .count .result) (c .count .ok) (c .count .ensures ∙ ap pos (sym (found .1))))
-          ((c .before .before .before .write-decoder) .ensures ∙ ap (λ (v : View). onto (args .state .now) (decoderBytes v)) (leaves _ _ _ _ (found .0) (done .ensures .left))),
-      rw same (done .ensures .stored),
-    )
+    record {
+      call = rw (← viewed (c .before .before .before .before .before .before .before .before .before .before .before .before .before)) (linked-done (args .state .now) _ _ _ _ _ (same ∙ found .0) (returned w64 (c .count .result) (c .count .ok) (c .count .ensures ∙ ap pos (sym (found .1))))
+          ((c .before .before .before .write-decoder) .ensures ∙ ap (λ (v : View). onto (args .state .now) (decoderBytes v)) (leaves _ _ _ _ (found .0) (done .ensures .left))));
+      samples = rw (← viewed (c .before .before .before .before .before .before .before .before .before .before .before .before .before)) (rw same (done .ensures .stored));
+    }
 
 pub qoa-decoder-into-spec : {M : Type 1} → statement M
 qoa-decoder-into-spec =
