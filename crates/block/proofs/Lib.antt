@@ -3,3 +3,5 @@ pub mod Laying
 pub mod Layouts
 pub mod Holding
 pub mod Readable
+pub mod Fields
+pub mod Back
