@@ -2,7 +2,7 @@
 use Prim.Native.Nat.{ℕ, _+_, _-_, _*_, _≤_, _<_, _^_}
 use mathlib.Core.Bool.{Bool, true, false, cond}
 use mathlib.Core.List.{List, [], _∷_, _++_, append-assoc}
-use mathlib.Core.Path.{_≡_, refl, sym, ap, ap₂, _∙_}
+use mathlib.Core.Path.{_≡_, refl, sym, subst, ap, ap₂, _∙_}
 use borrow.Author.Tests.{le-ltb, ltb-false, ltb-true}
 use native.Mathlib.Nat.{add-assoc, add-zero, zero-add}
 use native.Mathlib.Omega.{arith}
@@ -113,3 +113,156 @@ encoder-back v holds =
     let lms : predictorsIn block 9 (byteIn block 0) ≡ v .lms =
     ap (predictorsIn block 9) channels ∙ predictors-back (v .lms) block 9 (v .channels) (holds .each-channel) (holds .few-channels) (holds .predictors) (λ q within. read-rest (encoderFields v) rest 4 q) in
     ap encoderIn (encoder-joined v) ∙ (λ i. record { channels = channels i; rate = rate i; total = total i; lms = lms i })
+
+-- ---- a decoder's state
+
+abbrev pub ModeHolds : ProcessingMode → Type 0
+ModeHolds Streaming = Unit {0}
+ModeHolds (FixedSamples total c rate) = (total < 2 ^ 32) × (c < 2 ^ 8) × (rate < 2 ^ 32)
+
+pub record DecoderHolds (v : View) : Type 0 where
+  pub mode-holds : ModeHolds (v .mode)
+  pub place-fits : v .at < 2 ^ 64
+  pub few-channels : v .frame .channels ≤ maxChannels
+  pub rate-fits : v .frame .rate < 2 ^ 32
+  pub samples-fit : v .frame .samples < 2 ^ 16
+  pub remaining-fits : v .remaining < 2 ^ 16
+  pub next-fits : v .next < 2 ^ 16
+  pub few-pending : v .end ≤ 20 * maxChannels
+  pub each-pending : length (v .pending) ≡ v .end - v .next
+  pub pending-fit : (i : ℕ) → SFits w16 (at (v .pending) i)
+  pub each-channel : length (v .lms) ≡ v .frame .channels
+  pub predictors : (j : ℕ) → j < v .frame .channels → Predictor (lmsOf (v .lms) j)
+
+-- the fields behind the mode's
+laterFields : View → List Field
+laterFields v =
+    record { width = 8; value = v .at }
+    ∷ record { width = 1; value = v .frame .channels }
+    ∷ record { width = 4; value = v .frame .rate }
+    ∷ record { width = 2; value = v .frame .samples }
+    ∷ record { width = 2; value = v .remaining }
+    ∷ record { width = 2; value = v .next }
+    ∷ record { width = 2; value = v .end }
+    ∷ record { width = 1; value = cond (v .given) 1 0 }
+    ∷ []
+
+decoderFields : ℕ → ℕ → ℕ → ℕ → View → List Field
+decoderFields m total c rate v = record { width = 1; value = m } ∷ record { width = 4; value = total } ∷ record { width = 1; value = c } ∷ record { width = 4; value = rate } ∷ laterFields v
+
+modeFields : ProcessingMode → View → List Field
+modeFields Streaming v = decoderFields 0 0 0 0 v
+modeFields (FixedSamples total c rate) v = decoderFields 1 total c rate v
+
+abbrev restOf : View → List ℕ
+restOf v = predictorsBytes (v .lms) ++ pendingBytes v
+
+decoder-joined : (m : ProcessingMode) (v : View) → v .mode ≡ m → decoderBytes v ≡ joined (modeFields m v) (restOf v)
+unfolding decoderBytes modeBytes frameBytes restBytes joined modeFields decoderFields laterFields
+decoder-joined Streaming v e = rw e (simp append-assoc)
+decoder-joined (FixedSamples total c rate) v e = rw e (simp append-assoc)
+
+flag-back : (b : Bool) (n : ℕ) → n ≡ cond b 1 0 → eqb n 1 ≡ b
+flag-back true n e = rw e
+flag-back false n e = rw e
+
+flag-small : (b : Bool) → cond b 1 0 < 256 ^ 1
+flag-small true = lit< tt
+flag-small false = lit< tt
+
+module _ (m total c rate : ℕ) (v : View) (holds : DecoderHolds v) where
+  abbrev fields : List Field
+  fields = decoderFields m total c rate v
+
+  abbrev block : List ℕ
+  block = joined (decoderFields m total c rate v) (restOf v)
+
+  channels-back : byteIn block 18 ≡ v .frame .channels
+  unfolding decoderFields laterFields
+  channels-back = sym (be-one block 18) ∙ read-field (restOf v) (there (there (there (there (there here))))) (omega (arith, holds .few-channels))
+
+  next-back : be16 block 27 ≡ v .next
+  unfolding decoderFields laterFields
+  next-back = read-field (restOf v) (there (there (there (there (there (there (there (there (there here))))))))) (holds .next-fits)
+
+  end-back : be16 block 29 ≡ v .end
+  unfolding decoderFields laterFields
+  end-back = read-field (restOf v) (there (there (there (there (there (there (there (there (there (there here)))))))))) (omega (arith, holds .few-pending))
+
+  -- behind the fields
+  rest-back : (n q : ℕ) → be n block (32 + q) ≡ be n (restOf v) q
+  unfolding decoderFields laterFields widths
+  rest-back n q = read-rest (decoderFields m total c rate v) (restOf v) n q
+
+  lms-back : predictorsIn block 32 (byteIn block 18) ≡ v .lms
+  lms-back =
+      ap (predictorsIn block 32) channels-back
+      ∙ predictors-back (v .lms) block 32 (v .frame .channels) (holds .each-channel) (holds .few-channels) (holds .predictors)
+      (λ q within. rest-back 4 q ∙ be-append 4 (predictorsBytes (v .lms)) (pendingBytes v) q (omega (arith, length-predictors (v .lms))))
+
+  held-back : (i : ℕ) → i < 20 * maxChannels → be 2 block (32 + 32 * maxChannels + 2 * i) ≡ low16 (pendingAt v i)
+  unfolding pendingBytes
+  held-back i l =
+      let place : 32 + 32 * maxChannels + 2 * i ≡ 32 + (length (predictorsBytes (v .lms)) + 2 * i) = omega (arith, length-predictors (v .lms)) in
+      ap (be 2 block) place
+      ∙ rest-back 2 (length (predictorsBytes (v .lms)) + 2 * i)
+      ∙ be-past 2 (predictorsBytes (v .lms)) (pendingBytes v) (2 * i)
+      ∙ ap (be 2 (pendingBytes v)) (sym (add-zero (2 * i)))
+      ∙ inside 2 (λ k. bytesOf 2 (low16 (pendingAt v k))) (λ k. length-bytes 2 (low16 (pendingAt v k))) 2 0 (lit≤ tt) (20 * maxChannels) i l
+      ∙ number-back 2 (low16 (pendingAt v i)) (modulo-lt 0xffff (pendingAt v i))
+
+  -- the pending sample at a place of the range
+  ranged : (k : ℕ) → pendingAt v (v .next + k) ≡ at (v .pending) k
+  unfolding pendingAt
+  ranged k =
+      let past = le-ltb (v .next + k) (v .next) (omega arith) in
+      let here : v .next + k - v .next ≡ k = omega arith in
+      rw (past, here)
+
+  sample-back : (k : ℕ) → k < v .end - v .next → sampleIn block (v .next + k) ≡ at (v .pending) k
+  sample-back k l =
+      ap (toZ w16) (held-back (v .next + k) (omega (arith, holds .few-pending)) ∙ ap low16 (ranged k)) ∙ read-low w16 0xffff refl (lit≤ tt) (holds .pending-fit k)
+
+  pending-back : table (be16 block 29 - be16 block 27) (λ k. sampleIn block (be16 block 27 + k)) ≡ v .pending
+  pending-back =
+      ap₂ (λ (n e : ℕ). table (e - n) (λ k. sampleIn block (n + k))) next-back end-back
+      ∙ table-ext (v .end - v .next) (λ k. sampleIn block (v .next + k)) (at (v .pending)) sample-back
+      ∙ table-of (v .end - v .next) (v .pending) (pos 0) (holds .each-pending)
+
+  all-back : modeIn block ≡ v .mode → decoderIn block ≡ v
+  unfolding decoderIn frameIn decoderFields laterFields
+  all-back mode =
+      let at : be64 block 10 ≡ v .at = read-field (restOf v) (there (there (there (there here)))) (holds .place-fits) in
+      let rates : be32 block 19 ≡ v .frame .rate = read-field (restOf v) (there (there (there (there (there (there here)))))) (holds .rate-fits) in
+      let samples : be16 block 23 ≡ v .frame .samples = read-field (restOf v) (there (there (there (there (there (there (there here))))))) (holds .samples-fit) in
+      let remaining : be16 block 25 ≡ v .remaining = read-field (restOf v) (there (there (there (there (there (there (there (there here)))))))) (holds .remaining-fits) in
+      let given = flag-back (v .given) (byteIn block 31) (sym (be-one block 31) ∙ read-field (restOf v) (there (there (there (there (there (there (there (there (there (there (there here))))))))))) (flag-small (v .given))) in
+      λ i. record {
+        mode = mode i;
+        at = at i;
+        frame = record { channels = channels-back i; rate = rates i; samples = samples i };
+        remaining = remaining i;
+        next = next-back i;
+        end = end-back i;
+        pending = pending-back i;
+        given = given i;
+        lms = lms-back i;
+      }
+
+pub decoder-back : (v : View) → DecoderHolds v → decoderIn (decoderBytes v) ≡ v
+unfolding modeIn modeFields decoderFields
+decoder-back v holds = by (v .mode) refl
+  where
+    by : (m : ProcessingMode) → v .mode ≡ m → decoderIn (decoderBytes v) ≡ v
+    by Streaming e =
+        let block = joined (decoderFields 0 0 0 0 v) (restOf v) in
+        let none : byteIn block 0 ≡ 0 = sym (be-one block 0) ∙ read-field (restOf v) here (lit< tt) in
+        ap decoderIn (decoder-joined Streaming v e) ∙ all-back 0 0 0 0 v holds (rw none (sym e))
+    by (FixedSamples total c rate) e =
+        let block = joined (decoderFields 1 total c rate v) (restOf v) in
+        let fits = subst (λ (m : ProcessingMode). ModeHolds m) e (holds .mode-holds) in
+        let one : byteIn block 0 ≡ 1 = sym (be-one block 0) ∙ read-field (restOf v) here (lit< tt) in
+        let totals : be32 block 1 ≡ total = read-field (restOf v) (there here) (fits .0) in
+        let channels : byteIn block 5 ≡ c = sym (be-one block 5) ∙ read-field (restOf v) (there (there here)) (fits .1) in
+        let rates : be32 block 6 ≡ rate = read-field (restOf v) (there (there (there here))) (fits .2) in
+        ap decoderIn (decoder-joined (FixedSamples total c rate) v e) ∙ all-back 1 total c rate v holds (rw (one, totals, channels, rates) (sym e))
