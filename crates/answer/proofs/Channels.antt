@@ -7,7 +7,7 @@ use lib.IntN.{ℤ}
 use lib.ListN.{length}
 use Rattle.lms.specs.declared.QoaLms.{QoaLms}
 use Rattle.search.proofs.Heard.{heard-full, heard-sample}
-use Rattle.slice.specs.Channel.{channelAt, runAfter}
+use Rattle.groups.specs.Channel.{channelAt, runAfter}
 use Rattle.encoder.specs.Channel.{lmsBefore, slicePart, sliceWord, sumAt}
 use Rattle.encoder.proofs.Channels.{before-next, length-part}
 

@@ -21,10 +21,10 @@ use Rattle.header.proofs.Headers.{InRange, header-of-bytes}
 use Rattle.header.proofs.Predictors.{lms-ext}
 use Rattle.search.proofs.Fitting.{strided-length}
 use Rattle.search.proofs.Slices.{encoded-word-lt}
-use Rattle.slice.specs.Channel.{channelAt}
-use Rattle.slice.specs.Groups.{groupsAt}
-use Rattle.slice.specs.Groups as Groups
-use Rattle.slice.proofs.Runs.{channel-ext}
+use Rattle.groups.specs.Channel.{channelAt}
+use Rattle.groups.specs.Groups.{groupsAt}
+use Rattle.groups.specs.Groups as Groups
+use Rattle.groups.proofs.Runs.{channel-ext}
 use Rattle.format.specs.Frame.{frameSamples, frameStates}
 use Rattle.encoder.specs.Channel.{lmsBefore, slicePart, sliceWord, sumAt}
 use Rattle.encoder.specs.Encoder.{View}

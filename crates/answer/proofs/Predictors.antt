@@ -18,7 +18,7 @@ use Rattle.trial.specs.Trial.{heard, sampleOf}
 use Rattle.trial.specs.declared.Heard.{Heard}
 use Rattle.header.specs.Predictor.{fourOf, fourWord, lmsAt, putLms}
 use Rattle.header.proofs.Predictors.{four-low, lms-of-put-low}
-use Rattle.slice.specs.Channel.{channelAt, runAfter}
+use Rattle.groups.specs.Channel.{channelAt, runAfter}
 use Rattle.slice.specs.Slice.{residualAt, sampleAt, stateAfter}
 use Rattle.encoder.specs.Frame.{lmsBytes}
 use Rattle.encoder.specs.Parts.{overlaid}

@@ -22,10 +22,10 @@ use Rattle.header.specs.Header.{headerAt, leftAt}
 use Rattle.header.specs.Predictor.{lmsOf, noLms}
 use Rattle.word.proofs.Fields.{AreBytes}
 use Rattle.header.proofs.Headers.{passes}
-use Rattle.slice.specs.Channel.{runAfter}
-use Rattle.slice.specs.Groups.{sliceWord}
-use Rattle.slice.proofs.Fits.{run-fits}
-use Rattle.slice.proofs.Growth.{run-within}
+use Rattle.groups.specs.Channel.{runAfter}
+use Rattle.groups.specs.Groups.{sliceWord}
+use Rattle.groups.proofs.Fits.{run-fits}
+use Rattle.groups.proofs.Growth.{run-within}
 use Rattle.state.specs.View.{View, channelsOf, waiting}
 use Rattle.state.specs.States.{goodState, weightBound}
 use Rattle.state.proofs.Bounds.{bound-grows}

@@ -26,9 +26,9 @@ use Rattle.header.proofs.Headers.{passes}
 use Rattle.header.specs.declared.frame.FrameHeader.{FrameHeader}
 use Rattle.header.specs.declared.refusal.Refusal.{Refusal}
 use Rattle.header.specs.declared.refusal.Refusal.the-variants.{BadState, Truncated}
-use Rattle.slice.specs.Channel.{runAfter}
-use Rattle.slice.specs.Groups.{groupsStates}
-use Rattle.slice.proofs.GroupLaws.{groups-lms, groups-other, length-groups}
+use Rattle.groups.specs.Channel.{runAfter}
+use Rattle.groups.specs.Groups.{groupsStates}
+use Rattle.groups.proofs.GroupLaws.{groups-lms, groups-other, length-groups}
 use Rattle.state.specs.View.{View, factsIn, view}
 use Rattle.state.specs.States.{goodState}
 use Rattle.state.specs.declared.QoaDecoder.{QoaDecoder}

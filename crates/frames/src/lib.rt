@@ -7,7 +7,7 @@ ghost use Rattle.word.specs.Rules.{firstOf};
 ghost use Rattle.header.specs.Format.{maxChannels, slicesOf, stateEnd};
 ghost use Rattle.header.specs.Header.{headerAt};
 ghost use Rattle.header.specs.Refusals.{toldChecked};
-ghost use Rattle.slice.specs.Groups.{AllWithin, groupsStates};
+ghost use Rattle.groups.specs.Groups.{AllWithin, groupsStates};
 ghost use Rattle.state.specs.View.{View, view};
 ghost use Rattle.state.specs.States.{goodState};
 ghost use Rattle.into.specs.Into.{groupsEnd};
@@ -55,7 +55,7 @@ fn run_groups(
     let mut all = states;
     for g in 0..groups {
         let place = at + 8 * (g * channels);
-        let next = slice::decode_groups(
+        let next = groups::decode_groups(
             &tab,
             all,
             bytes,

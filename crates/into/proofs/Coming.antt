@@ -12,9 +12,9 @@ use Rattle.word.proofs.Tables.{table-ext}
 use Rattle.word.proofs.Writes.{written-at, written-ext, written-join}
 use Rattle.lms.specs.declared.QoaLms.{QoaLms}
 use Rattle.header.specs.Predictor.{lmsOf}
-use Rattle.slice.specs.Channel.{channelAt, runAfter}
-use Rattle.slice.specs.Groups.{groupsAt, groupsStates, sliceWord}
-use Rattle.slice.proofs.GroupLaws.{groups-lms, groups-shift}
+use Rattle.groups.specs.Channel.{channelAt, runAfter}
+use Rattle.groups.specs.Groups.{groupsAt, groupsStates, sliceWord}
+use Rattle.groups.proofs.GroupLaws.{groups-lms, groups-shift}
 use Rattle.state.specs.View.{view, waiting}
 use Rattle.state.specs.declared.QoaDecoder.{QoaDecoder}
 use Rattle.state.proofs.Views.{view-lms, view-pending}

@@ -7,8 +7,8 @@ use native.Mathlib.Omega.{arith}
 use lib.ListN.{length, length-map}
 use Rattle.lms.proofs.Bounds.{within-more}
 use Rattle.header.specs.Format.{maxChannels}
-use Rattle.slice.specs.Groups.{AllWithin, groupsStates}
-use Rattle.slice.proofs.Growth.{groups-within}
+use Rattle.groups.specs.Groups.{AllWithin, groupsStates}
+use Rattle.groups.proofs.Growth.{groups-within}
 use Rattle.state.specs.View.{view}
 use Rattle.state.specs.States.{goodState}
 use Rattle.state.specs.declared.QoaDecoder.{QoaDecoder}

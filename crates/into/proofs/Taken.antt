@@ -14,8 +14,8 @@ use Rattle.word.specs.Written.{table}
 use Rattle.word.proofs.Tables.{table-ext}
 use Rattle.lms.specs.declared.QoaLms.{QoaLms}
 use Rattle.header.specs.Format.{slicesOf}
-use Rattle.slice.specs.Groups.{groupsStates}
-use Rattle.slice.proofs.GroupLaws.{groups-more}
+use Rattle.groups.specs.Groups.{groupsStates}
+use Rattle.groups.proofs.GroupLaws.{groups-more}
 use Rattle.state.specs.View.{View, view, waiting}
 use Rattle.state.specs.declared.QoaDecoder.{QoaDecoder}
 use Rattle.into.specs.Into.{comingAt, endAfter, flagged, groupsFor, nextAfter, rangeEnd, rangeNext, takenFrom}

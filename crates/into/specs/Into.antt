@@ -12,8 +12,8 @@ use Rattle.word.specs.Written.{table, written}
 use Rattle.lms.specs.declared.QoaLms.{QoaLms}
 use Rattle.header.specs.Refusals.{numberOf}
 use Rattle.header.specs.Predictor.{lmsOf}
-use Rattle.slice.specs.Channel.{runAfter}
-use Rattle.slice.specs.Groups.{groupsAt, sliceWord}
+use Rattle.groups.specs.Channel.{runAfter}
+use Rattle.groups.specs.Groups.{groupsAt, sliceWord}
 use Rattle.state.specs.View.{View, channelsOf, total, view, waiting}
 use Rattle.state.specs.States.{goodState}
 use Rattle.state.specs.declared.QoaDecoder.{QoaDecoder}

@@ -97,12 +97,12 @@ pub fn decode_more(d: QoaDecoder, bytes: &[u8], out: &mut [i16], more: usize) ->
     let rest = more % group;
     let full = QOA_SLICE_LEN * whole;
     let states = d.lms;
-    let run = slice::decode_groups(&tab, states, bytes, at, channels, full, out, kept);
+    let run = groups::decode_groups(&tab, states, bytes, at, channels, full, out, kept);
     let left = d.remaining as usize - full;
     let n = last_samples(rest, left);
     let place = at + 8 * (whole * channels);
     let mut fresh = [0i16; PENDING];
-    let last = slice::decode_groups(&tab, run, bytes, place, channels, n, &mut fresh, 0);
+    let last = groups::decode_groups(&tab, run, bytes, place, channels, n, &mut fresh, 0);
     copy_out(&fresh, 0, rest, out, kept + whole * group);
     let range = pending_range(rest, n * channels);
     let mut state = d;

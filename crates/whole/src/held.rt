@@ -35,7 +35,7 @@ fn decode_frame(
     let unread = [lms::new_lms(); QOA_MAX_CHANNELS];
     let states = header::read_states(bytes, at + QOA_HEADER_SIZE, channels, unread);
     let place = at + header::state_end(channels);
-    slice::decode_groups(tab, states, bytes, place, channels, samples, out, start);
+    groups::decode_groups(tab, states, bytes, place, channels, samples, out, start);
 }
 
 // All frames from a place on.

@@ -8,9 +8,9 @@ use lib.Dec.{lit<, lit≤}
 use lib.ListN.{length}
 use Rattle.header.specs.Format.{maxChannels}
 use Rattle.lms.proofs.Bounds.{within-more}
-use Rattle.slice.specs.Groups.{groupsStates}
-use Rattle.slice.proofs.GroupLaws.{groups-more}
-use Rattle.slice.proofs.Growth.{groups-within}
+use Rattle.groups.specs.Groups.{groupsStates}
+use Rattle.groups.proofs.GroupLaws.{groups-more}
+use Rattle.groups.proofs.Growth.{groups-within}
 use Rattle.into.proofs.Counts.{slices-one}
 use Rattle.frames.proofs.FrameLaws.{groups-still}
 use Rattle.frames.proofs.run_groups.Statement.{statement}

@@ -13,7 +13,7 @@ use Rattle.word.proofs.Writes.{length-written}
 use Rattle.lms.specs.declared.QoaLms.{QoaLms}
 use Rattle.lms.proofs.Bounds.{within-more}
 use Rattle.header.specs.Format.{maxChannels, slicesOf}
-use Rattle.slice.specs.Groups.{groupsAt, groupsStates}
+use Rattle.groups.specs.Groups.{groupsAt, groupsStates}
 use Rattle.state.specs.View.{view}
 use Rattle.into.specs.Into.{groupsFor}
 use Rattle.into.proofs.Counts.{Split, factor-some, groups-are, last-few, last-le, rest-le, slices-whole, split-at, whole-needed, whole-there}

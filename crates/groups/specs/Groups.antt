@@ -7,7 +7,7 @@ use Rattle.word.specs.Bytes.{be64}
 use Rattle.lms.specs.Predictor.{WeightsWithin}
 use Rattle.lms.specs.declared.QoaLms.{QoaLms}
 use Rattle.header.specs.Predictor.{lmsOf}
-use Rattle.slice.specs.Channel.{channelAt, runAfter}
+use Rattle.groups.specs.Channel.{channelAt, runAfter}
 
 -- the word of slice g of channel j, of c channels
 abbrev pub sliceWord : List ℕ → ℕ → ℕ → ℕ → ℕ → ℕ

@@ -10,9 +10,9 @@ use Rattle.word.proofs.BytesLaws.{be-drop, be-take}
 use Rattle.word.proofs.Writes.{written-ext}
 use Rattle.lms.specs.declared.QoaLms.{QoaLms}
 use Rattle.header.specs.Predictor.{lmsOf}
-use Rattle.slice.specs.Channel.{runAfter}
-use Rattle.slice.specs.Groups.{groupsAt, groupsStates, sliceWord}
-use Rattle.slice.proofs.Runs.{channel-ext, run-ext}
+use Rattle.groups.specs.Channel.{runAfter}
+use Rattle.groups.specs.Groups.{groupsAt, groupsStates, sliceWord}
+use Rattle.groups.proofs.Runs.{channel-ext, run-ext}
 
 -- a product above a number has no factor 0
 factor-pos : (a c k : ℕ) → k < a * c → 0 < c

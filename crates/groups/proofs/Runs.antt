@@ -8,8 +8,8 @@ use lib.IntN.{ℤ}
 use Rattle.word.specs.Written.{written}
 use Rattle.word.proofs.Writes.{written-ext, written-join-by}
 use Rattle.lms.specs.declared.QoaLms.{QoaLms}
 use Rattle.slice.specs.Slice.{sampleAt}
-use Rattle.slice.specs.Channel.{channelAt, runAfter}
+use Rattle.groups.specs.Channel.{channelAt, runAfter}
 
 module _ (words : ℕ → ℕ) (s : QoaLms) where
   -- only the words of the slices that ran count

@@ -14,9 +14,9 @@ use Rattle.word.specs.Written.{interleaved, written}
 use Rattle.word.proofs.Writes.{interleaved-flat, length-written, written-at, written-other}
 use Rattle.lms.specs.declared.QoaLms.{QoaLms}
 use Rattle.header.specs.Predictor.{lmsOf, noLms}
-use Rattle.slice.specs.Channel.{channelAt, runAfter}
-use Rattle.slice.specs.Groups.{groupsAt, groupsStates, sliceWord}
-use Rattle.slice.proofs.Runs.{channel-shift, run-more}
+use Rattle.groups.specs.Channel.{channelAt, runAfter}
+use Rattle.groups.specs.Groups.{groupsAt, groupsStates, sliceWord}
+use Rattle.groups.proofs.Runs.{channel-shift, run-more}
 
 -- ---- the predictors, by channel
 

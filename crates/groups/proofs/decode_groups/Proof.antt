@@ -11,12 +11,12 @@ use Rattle.word.specs.Written.{interleaved, written}
 use Rattle.word.proofs.Writes.{length-interleaved, written-other}
 use Rattle.header.specs.Format.{slicesOf}
 use Rattle.header.specs.Predictor.{lmsOf, noLms}
-use Rattle.slice.specs.Channel.{channelAt, runAfter}
-use Rattle.slice.specs.Groups.{groupsStates, sliceWord}
-use Rattle.slice.proofs.GroupLaws.{groups-flat, words-at}
-use Rattle.slice.proofs.Parts.{word-room}
-use Rattle.slice.proofs.decode_groups.Statement.{statement}
-use Rattle.slice.proofs.decode_groups.Tie as tie
+use Rattle.groups.specs.Channel.{channelAt, runAfter}
+use Rattle.groups.specs.Groups.{groupsStates, sliceWord}
+use Rattle.groups.proofs.GroupLaws.{groups-flat, words-at}
+use Rattle.groups.proofs.Parts.{word-room}
+use Rattle.groups.proofs.decode_groups.Statement.{statement}
+use Rattle.groups.proofs.decode_groups.Tie as tie
 
 abbrev Inv-loop : tie.InvT-loop
 Inv-loop tab bytes at channels samples out₀ start next₀ j₀ out next j =

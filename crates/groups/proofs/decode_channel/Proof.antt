@@ -11,11 +11,11 @@ use Rattle.word.specs.Written.{written}
 use Rattle.word.proofs.Writes.{length-written}
 use Rattle.lms.proofs.Bounds.{within-more}
 use Rattle.header.specs.Format.{slicesOf}
-use Rattle.slice.specs.Channel.{channelAt, runAfter}
-use Rattle.slice.proofs.Growth.{run-within}
-use Rattle.slice.proofs.Runs.{channel-stored}
-use Rattle.slice.proofs.decode_channel.Statement.{statement}
-use Rattle.slice.proofs.decode_channel.Tie as tie
+use Rattle.groups.specs.Channel.{channelAt, runAfter}
+use Rattle.groups.proofs.Growth.{run-within}
+use Rattle.groups.proofs.Runs.{channel-stored}
+use Rattle.groups.proofs.decode_channel.Statement.{statement}
+use Rattle.groups.proofs.decode_channel.Tie as tie
 
 abbrev Inv-loop : tie.InvT-loop
 Inv-loop tab bytes at channels samples out₀ start slices state₀ g₀ out state g =
