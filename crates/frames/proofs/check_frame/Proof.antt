@@ -1,4 +1,4 @@
--- `decoder::frames::check_frame` meets its contract: the first rule that fires, one return for each. Assumes nothing.
+-- `frames::check_frame` meets its contract: the first rule that fires, one return for each. Assumes nothing.
 use mathlib.Core.Path.{_≡_, ap, sym, _∙_}
 use mathlib.Core.Option.{none}
 use native.Mathlib.Omega.{arith}

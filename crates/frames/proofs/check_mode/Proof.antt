@@ -1,4 +1,4 @@
--- `decoder::frames::check_mode` meets its contract, one return for each rule. Assumes nothing.
+-- `frames::check_mode` meets its contract, one return for each rule. Assumes nothing.
 use mathlib.Core.Path.{_≡_, ap, sym, _∙_}
 use mathlib.Core.Option.{Option}
 use Prim.Native.Nat.{ℕ}

@@ -1,4 +1,4 @@
--- `decoder::frames::drop_rest` meets its contract. Assumes nothing.
+-- `frames::drop_rest` meets its contract. Assumes nothing.
 use mathlib.Core.Path.{_≡_, ap}
 use Prim.Native.Nat.{ℕ, _+_, _*_, _≤_}
 use native.Mathlib.Omega.{arith}

@@ -1,4 +1,4 @@
--- `decoder::frames::enter_frame` meets its contract. Assumes nothing.
+-- `frames::enter_frame` meets its contract. Assumes nothing.
 use mathlib.Core.Path.{_≡_, refl, ap, sym, _∙_}
 use mathlib.Core.Option.{none}
 use native.Mathlib.Omega.{arith}

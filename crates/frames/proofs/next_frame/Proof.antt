@@ -1,4 +1,4 @@
--- `decoder::frames::next_frame` meets its contract. Assumes nothing.
+-- `frames::next_frame` meets its contract. Assumes nothing.
 use mathlib.Core.Path.{_≡_, refl, ap, sym, _∙_}
 use mathlib.Core.Bool.{true}
 use Prim.Native.Nat.{ℕ, _+_, _*_, _≤_}

@@ -1,4 +1,4 @@
--- `decoder::frames::run_groups` meets its contract. The loop's invariant: the predictors are those after `g` groups.
+-- `frames::run_groups` meets its contract. The loop's invariant: the predictors are those after `g` groups.
 -- The measure is what is left of the groups. Assumes nothing.
 use mathlib.Core.Path.{_≡_, refl, sym, _∙_}
 use Prim.Native.Nat.{_+_, _-_, _*_, _≤_}

@@ -1,4 +1,4 @@
--- `decoder::frames::start_frame` meets its contract. Assumes nothing.
+-- `frames::start_frame` meets its contract. Assumes nothing.
 use mathlib.Core.Path.{_≡_}
 use native.Mathlib.Omega.{arith}
 use lib.ListN.{length}

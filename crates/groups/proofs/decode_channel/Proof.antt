@@ -1,4 +1,4 @@
--- `slice::decode_channel` meets its contract. The loop's invariant: the first `g` slices have run, in the predictor and in `out`,
+-- `groups::decode_channel` meets its contract. The loop's invariant: the first `g` slices have run, in the predictor and in `out`,
 -- where the last slice may be short. The measure is what is left of the slices. Assumes nothing.
 use mathlib.Core.Path.{_≡_, refl, _∙_}
 use Prim.Native.Nat.{ℕ, _+_, _*_, _-_, _≤_, _<_, min}

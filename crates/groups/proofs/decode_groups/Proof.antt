@@ -1,4 +1,4 @@
--- `slice::decode_groups` meets its contract. The loop's invariant: the first `j` channels have run, in the predictors and in `out`.
+-- `groups::decode_groups` meets its contract. The loop's invariant: the first `j` channels have run, in the predictors and in `out`.
 -- The measure is what is left of the channels. Assumes nothing.
 use mathlib.Core.Path.{_≡_, refl, _∙_}
 use Prim.Native.Nat.{ℕ, _+_, _*_, _-_, _≤_, _<_}

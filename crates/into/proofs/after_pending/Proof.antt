@@ -1,4 +1,4 @@
--- `decoder::into::after_pending` meets its contract. Assumes nothing.
+-- `into::after_pending` meets its contract. Assumes nothing.
 use borrow.Author.Needs.{needs}
 use Rattle.state.specs.View.{view}
 use Rattle.into.proofs.Taken.{view-pending-left}

@@ -1,4 +1,4 @@
--- `decoder::into::copy_out` meets its contract. The loop's invariant: the first `i` samples are stored.
+-- `into::copy_out` meets its contract. The loop's invariant: the first `i` samples are stored.
 -- The measure is what is left of them. Assumes nothing.
 use mathlib.Core.Path.{_≡_, refl, _∙_}
 use Prim.Native.Nat.{_+_, _-_, _≤_}

@@ -1,4 +1,4 @@
--- `decoder::into::decode_into` meets its contract. Assumes nothing.
+-- `into::decode_into` meets its contract. Assumes nothing.
 use mathlib.Core.Path.{_≡_, refl, ap, sym, _∙_}
 use mathlib.Core.Bool.{true}
 use Prim.Native.Nat.{ℕ, _+_, _-_, _*_, _≤_, _<_, min}

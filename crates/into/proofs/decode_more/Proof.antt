@@ -1,4 +1,4 @@
--- `decoder::into::decode_more` meets its contract. Assumes nothing.
+-- `into::decode_more` meets its contract. Assumes nothing.
 use mathlib.Core.Path.{_≡_, ap, _∙_}
 use mathlib.Core.List.{List}
 use Prim.Native.Nat.{ℕ, _+_, _-_, _*_, _/_, _%_, _≤_, _<_}

@@ -1,4 +1,4 @@
--- `decoder::into::groups_for` meets its contract. Assumes nothing.
+-- `into::groups_for` meets its contract. Assumes nothing.
 use mathlib.Core.Path.{refl}
 use borrow.Author.Needs.{needs}
 use Rattle.into.specs.Into.{groupsFor}

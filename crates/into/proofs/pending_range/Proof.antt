@@ -1,4 +1,4 @@
--- `decoder::into::pending_range` meets its contract. Assumes nothing.
+-- `into::pending_range` meets its contract. Assumes nothing.
 use borrow.Author.Tests.{lt-ltb, le-ltb}
 use Rattle.into.proofs.pending_range.Statement.{statement}
 use Rattle.into.proofs.pending_range.Tie as tie

@@ -1,4 +1,4 @@
-// The predictor states and the slice groups of a frame, channels in turn.
+// A frame's body, stored in lent bytes: the predictor states, then the slice groups, channels in turn.
 ghost use mathlib.Core.Path.{_≡_};
 ghost use Prim.Native.Nat.{ℕ, _+_, _*_, _≤_, _<_, _^_, min};
 ghost use lib.ListN.{length};
@@ -10,9 +10,8 @@ ghost use Rattle.scale.specs.Tables.{dequantTab, reciprocalTab};
 ghost use Rattle.header.specs.Format.{maxChannels, slicesOf};
 ghost use Rattle.header.specs.Predictor.{lmsOf};
 ghost use Rattle.search.specs.Search.{encodedSlice, strided};
-ghost use Rattle.encoder.specs.Channel.{lmsBefore, sliceWord};
-ghost use Rattle.encoder.specs.Frame.{laid, lmsBytes};
-ghost use Rattle.encoder.specs.Parts.{overlaid};
+ghost use Rattle.body.specs.Channel.{lmsBefore, sliceWord};
+ghost use Rattle.body.specs.Laid.{laid, lmsBytes, overlaid};
 use header::frame::QOA_MAX_CHANNELS;
 use header::frame::QOA_SLICE_LEN;
 use header::frame::slices_of;

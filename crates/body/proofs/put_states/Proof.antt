@@ -1,4 +1,4 @@
--- `encoder::group::put_states` meets its contract. The invariant: the first `j` predictors are stored. Assumes nothing.
+-- `body::put_states` meets its contract. The invariant: the first `j` predictors are stored. Assumes nothing.
 use mathlib.Core.Path.{_≡_, refl, sym}
 use Prim.Native.Nat.{ℕ, _+_, _*_, _-_, _≤_}
 use native.Mathlib.Numerals.{add-one}
@@ -7,12 +7,11 @@ use lib.ListN.{length}
 use mathlib.Core.List.{List}
 use Rattle.lms.specs.declared.QoaLms.{QoaLms}
 use Rattle.header.specs.Predictor.{lmsOf}
-use Rattle.encoder.specs.Frame.{laid, lmsBytes}
-use Rattle.encoder.specs.Parts.{overlaid}
-use Rattle.encoder.proofs.Laids.{length-blocks, length-lms, next-block, over-lms}
-use Rattle.encoder.proofs.Overlays.{over-nil}
-use Rattle.encoder.proofs.group.put_states.Statement.{statement}
-use Rattle.encoder.proofs.group.put_states.Tie as tie
+use Rattle.body.specs.Laid.{laid, lmsBytes, overlaid}
+use Rattle.body.proofs.Laids.{length-blocks, length-lms, next-block, over-lms}
+use Rattle.body.proofs.Overlays.{over-nil}
+use Rattle.body.proofs.put_states.Statement.{statement}
+use Rattle.body.proofs.put_states.Tie as tie
 
 -- a channel's bytes
 abbrev stored : List QoaLms → ℕ → List ℕ

@@ -12,9 +12,8 @@ use Rattle.word.proofs.BytesLaws.{length-bytes}
 use Rattle.word.proofs.Writes.{written-at}
 use Rattle.lms.specs.declared.QoaLms.{QoaLms}
 use Rattle.header.specs.Predictor.{fourWord, putLms}
-use Rattle.encoder.specs.Frame.{laid, lmsBytes}
-use Rattle.encoder.specs.Parts.{overlaid}
-use Rattle.encoder.proofs.Overlays.{length-over, over-put, over-then}
+use Rattle.body.specs.Laid.{laid, lmsBytes, overlaid}
+use Rattle.body.proofs.Overlays.{length-over, over-put, over-then}
 
 -- blocks of one length
 pub length-laid : (m n : ℕ) (f : ℕ → List ℕ) → ((i : ℕ) → length (f i) ≡ m) → length (laid n f) ≡ n * m

@@ -1,4 +1,4 @@
--- `encoder::group::put_group` meets its contract. The invariant: the first `j` channels are searched, in the predictors and in `out`.
+-- `body::put_group` meets its contract. The invariant: the first `j` channels are searched, in the predictors and in `out`.
 -- Assumes nothing.
 use mathlib.Core.Path.{_≡_, refl, sym, ap, _∙_}
 use mathlib.Core.List.{List}
@@ -16,13 +16,12 @@ use Rattle.lms.specs.declared.QoaLms.{QoaLms}
 use Rattle.header.specs.Predictor.{lmsOf, noLms}
 use Rattle.search.specs.Search.{encodedSlice, strided}
 use Rattle.search.specs.declared.Encoded.{Encoded}
-use Rattle.encoder.specs.Frame.{laid}
-use Rattle.encoder.specs.Parts.{overlaid}
-use Rattle.encoder.proofs.Channels.{last-inside}
-use Rattle.encoder.proofs.Laids.{length-blocks, next-block}
-use Rattle.encoder.proofs.Overlays.{over-nil, over-put}
-use Rattle.encoder.proofs.group.put_group.Statement.{statement}
-use Rattle.encoder.proofs.group.put_group.Tie as tie
+use Rattle.body.specs.Laid.{laid, overlaid}
+use Rattle.body.proofs.Channels.{last-inside}
+use Rattle.body.proofs.Laids.{length-blocks, next-block}
+use Rattle.body.proofs.Overlays.{over-nil, over-put}
+use Rattle.body.proofs.put_group.Statement.{statement}
+use Rattle.body.proofs.put_group.Tie as tie
 
 -- the slice of channel k
 abbrev found : List QoaLms → List ℤ → ℕ → ℕ → ℕ → ℕ → Encoded

@@ -2,14 +2,13 @@
 use Prim.Native.Nat.{ℕ, _+_, _≤_}
 use mathlib.Core.Path.{_≡_, ap, ap₂, sym, _∙_}
 use mathlib.Core.List.{List, [], _++_, append-assoc}
-use native.Mathlib.Nat.{add-assoc, add-zero, zero-add}
+use native.Mathlib.Nat.{add-assoc, add-zero}
 use native.Mathlib.Omega.{arith}
 use lib.ListN.{length, take, drop, length-append, length-drop, take-append-drop}
 use lib.Seq.{drop-at, drop-drop, length-take-le, take-at}
 use Rattle.word.specs.Bytes.{bytesOf, put}
 use Rattle.word.proofs.BytesLaws.{length-bytes, put-list}
-use Rattle.encoder.specs.Calls.{onto}
-use Rattle.encoder.specs.Parts.{overlaid}
+use Rattle.body.specs.Laid.{overlaid}
 
 module _ (out : List ℕ) (p : ℕ) where
   -- none
@@ -46,8 +45,3 @@ module _ (out : List ℕ) (p : ℕ) where
   -- the same, where the place is known by another number
   pub over-then : (q : ℕ) (xs ys : List ℕ) → q ≡ p + length xs → p + length xs ≤ length out → overlaid (overlaid out p xs) q ys ≡ overlaid out p (xs ++ ys)
   over-then q xs ys e room = rw e (over-more xs ys room)
-
--- from the start
-pub over-start : (out xs : List ℕ) → overlaid out 0 xs ≡ onto out xs
-unfolding overlaid
-over-start out xs = rw zero-add

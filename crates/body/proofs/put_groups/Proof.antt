@@ -1,4 +1,4 @@
--- `encoder::group::put_groups` meets its contract. The invariant: the first `g` groups are searched, in the predictors and in `out`.
+-- `body::put_groups` meets its contract. The invariant: the first `g` groups are searched, in the predictors and in `out`.
 -- Assumes nothing.
 use borrow.Author.Needs.{needs}
 use mathlib.Core.Path.{_≡_, refl, sym, ap, _∙_}
@@ -17,14 +17,13 @@ use Rattle.header.specs.Format.{slicesOf}
 use Rattle.header.specs.Predictor.{lmsOf, noLms}
 use Rattle.search.specs.Search.{strided}
 use Rattle.search.proofs.Fitting.{strided-length}
-use Rattle.encoder.specs.Channel.{lmsBefore, sliceWord}
-use Rattle.encoder.specs.Frame.{laid}
-use Rattle.encoder.specs.Parts.{overlaid}
-use Rattle.encoder.proofs.Channels.{before-within, group-inside, next-lms, next-word, words-before, words-inside}
-use Rattle.encoder.proofs.Laids.{laid-ext, length-blocks, length-words, next-block, written-here}
-use Rattle.encoder.proofs.Overlays.{over-nil}
-use Rattle.encoder.proofs.group.put_groups.Statement.{statement}
-use Rattle.encoder.proofs.group.put_groups.Tie as tie
+use Rattle.body.specs.Channel.{lmsBefore, sliceWord}
+use Rattle.body.specs.Laid.{laid, overlaid}
+use Rattle.body.proofs.Channels.{before-within, group-inside, next-lms, next-word, words-before, words-inside}
+use Rattle.body.proofs.Laids.{laid-ext, length-blocks, length-words, next-block, written-here}
+use Rattle.body.proofs.Overlays.{over-nil}
+use Rattle.body.proofs.put_groups.Statement.{statement}
+use Rattle.body.proofs.put_groups.Tie as tie
 
 -- the bytes of group g
 abbrev group : List QoaLms → List ℤ → ℕ → ℕ → ℕ → List ℕ

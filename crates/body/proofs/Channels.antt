@@ -16,7 +16,7 @@ use Rattle.search.specs.declared.Encoded.{Encoded}
 use Rattle.search.proofs.Fitting.{strided-length}
 use Rattle.search.proofs.Lists.{whole-table}
 use Rattle.search.proofs.Slices.{encoded-fits, encoded-lms, encoded-within}
-use Rattle.encoder.specs.Channel.{lmsBefore, slicePart, sliceWord}
+use Rattle.body.specs.Channel.{lmsBefore, slicePart, sliceWord}
 
 -- ---- the samples
 
