@@ -3,7 +3,7 @@ use header::frame::QOA_SLICE_LEN;
 use lms::QoaLms;
 use trial::Heard;
 ghost use mathlib.Core.Path.{_≡_};
-ghost use Prim.Native.Nat.{ℕ, _+_, _*_, _^_, _≤_, _<_, min};
+ghost use Prim.Native.Nat.{ℕ, _+_, _*_, _^_, _≤_, _<_};
 ghost use mathlib.Core.List.{List};
 ghost use lib.IntN.{ℤ};
 ghost use lib.ListN.{length};
@@ -38,14 +38,14 @@ fn gains_of(row: [i32; 8]) -> [[i32; 2]; 8]
     ensures { λ r. ⌜ GainsOf r row ⌝ }
 {
     [
-        lms::gains(row[0]),
-        lms::gains(row[1]),
-        lms::gains(row[2]),
-        lms::gains(row[3]),
-        lms::gains(row[4]),
-        lms::gains(row[5]),
-        lms::gains(row[6]),
-        lms::gains(row[7]),
+        ahead::gains(row[0]),
+        ahead::gains(row[1]),
+        ahead::gains(row[2]),
+        ahead::gains(row[3]),
+        ahead::gains(row[4]),
+        ahead::gains(row[5]),
+        ahead::gains(row[6]),
+        ahead::gains(row[7]),
     ]
 }
 
@@ -83,17 +83,17 @@ fn hear_quiet(
     ensures heard { λ r. ⌜ ((s : QoaLms) (o : List ℤ) → HeardTo word s o start stride from lms (now (out .entry)) → HeardTo word s o start stride (r .done) (r .lms) (now (out .exit))) ⌝ }
 {
     let rest = drop_codes(word, from);
-    let mut state = lms::ready(lms);
+    let mut state = ahead::ready(lms);
     for i in from..to {
         let code = word::code(rest, i - from);
         let value = row[code];
-        let sum = lms::sum_ahead(state, value);
+        let sum = ahead::sum_ahead(state, value);
         if !lms::is_short(sum) {
             let left = state.lms;
             return Part { done: i, lms: left };
         }
         out[start + i * stride] = sum as i16;
-        state = lms::advance(state, sum, &gains[code]);
+        state = ahead::advance(state, sum, &gains[code]);
     }
     let after = state.lms;
     Part {
@@ -159,14 +159,14 @@ fn hear_loud(
     requires room { ⌜ ((i : ℕ) → i < count → start + i * stride < length (now out)) ⌝ }
     ensures { λ r. ⌜ ((s : QoaLms) (o : List ℤ) → HeardTo word s o start stride from lms (now (out .entry)) → HeardTo word s o start stride count r (now (out .exit))) ⌝ }
 {
-    let mut state = lms::ready(lms);
+    let mut state = ahead::ready(lms);
     let mut rest = drop_codes(word, from);
     for i in from..count {
         let code = word::code(rest, 0);
         let value = row[code];
-        let sample = lms::clamped_ahead(state, value);
+        let sample = ahead::clamped_ahead(state, value);
         out[start + i * stride] = sample as i16;
-        state = lms::advance(state, sample, &gains[code]);
+        state = ahead::advance(state, sample, &gains[code]);
         rest = drop_codes(rest, 1);
     }
     state.lms

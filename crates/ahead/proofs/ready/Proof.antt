@@ -1,9 +1,9 @@
--- `lms::ready` meets its contract, by that of `older_dot`.
+-- `ahead::ready` meets its contract, by that of `older_dot`.
 -- Assumes nothing.
 use borrow.Author.Needs.{needs}
-use Rattle.lms.specs.Loop.{aheadOf}
-use Rattle.lms.proofs.ready.Statement.{statement}
-use Rattle.lms.proofs.ready.Tie as tie
+use Rattle.ahead.specs.Loop.{aheadOf}
+use Rattle.ahead.proofs.ready.Statement.{statement}
+use Rattle.ahead.proofs.ready.Tie as tie
 
 older-dot-requires : tie.Need-older-dot-requires
 older-dot-requires c κs = search needs

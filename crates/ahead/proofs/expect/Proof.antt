@@ -1,4 +1,4 @@
--- `lms::expect` meets its contract: the older sum is that of the predictor, and the newest product is added to it.
+-- `ahead::expect` meets its contract: the older sum is that of the predictor, and the newest product is added to it.
 -- Assumes nothing.
 use mathlib.Core.Path.{ap, ap₂, _∙_}
 use Prim.Native.Nat.{_^_}
@@ -10,12 +10,12 @@ use mir.Facts.{toZ-ofZ}
 use Rattle.wrap.specs.Wrap.{wrap32}
 use Rattle.wrap.proofs.Elements.{element-field}
 use Rattle.wrap.proofs.Integers.{fits-of, shift-back}
-use Rattle.lms.specs.Loop.{aheadOf}
+use Rattle.ahead.specs.Loop.{aheadOf}
 use Rattle.lms.specs.Predictor.{at, dot, olderDot, predicted}
-use Rattle.lms.specs.declared.Ahead.{Ahead}
+use Rattle.ahead.specs.declared.Ahead.{Ahead}
 use borrow.Author.Needs.{needs}
-use Rattle.lms.proofs.expect.Statement.{statement}
-use Rattle.lms.proofs.expect.Tie as tie
+use Rattle.ahead.proofs.expect.Statement.{statement}
+use Rattle.ahead.proofs.expect.Tie as tie
 
 array-copy-out-add-newest : tie.Need-array-copy-out-add-newest
 array-copy-out-add-newest c = search needs

@@ -1,4 +1,4 @@
--- `lms::gain` meets its contract.
+-- `ahead::gain` meets its contract.
 -- Assumes nothing.
 use mathlib.Core.Path.{_≡_, ap, _∙_}
 use mathlib.Core.Bool.{Bool, true, false, cond}
@@ -12,11 +12,11 @@ use mir.Facts.{toZ-ofZ}
 use mir.Syntax.{w32}
 use Rattle.wrap.proofs.Elements.{element}
 use Rattle.wrap.proofs.Integers.{abs-add, fits-abs, reread}
-use Rattle.lms.specs.Loop.{gained, sideOf}
+use Rattle.ahead.specs.Loop.{gained, sideOf}
 use Rattle.lms.specs.Predictor.{at}
 use borrow.Author.Needs.{needs}
-use Rattle.lms.proofs.gain.Statement.{statement}
-use Rattle.lms.proofs.gain.Tie as tie
+use Rattle.ahead.proofs.gain.Statement.{statement}
+use Rattle.ahead.proofs.gain.Tie as tie
 
 -- one of two places
 side-below : (t : Bool) → cond t 1 0 < 2

@@ -5,9 +5,9 @@ use mathlib.Core.List.{List, [], _∷_}
 use lib.IntN.{ℤ, natAbs, negℤ, pos, _+ℤ_}
 use lib.Signed.{ltZ, shrZ}
 use Rattle.wrap.specs.Wrap.{low32}
 use Rattle.lms.specs.Predictor.{at, olderDot}
-use Rattle.lms.specs.declared.Ahead.{Ahead}
+use Rattle.ahead.specs.declared.Ahead.{Ahead}
 use Rattle.lms.specs.declared.QoaLms.{QoaLms}
 
 -- a predictor, with the low bits of the sum of its three older products
 unfoldable pub aheadOf : QoaLms → Ahead

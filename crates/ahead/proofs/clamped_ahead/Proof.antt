@@ -1,4 +1,4 @@
--- `lms::clamped_ahead` meets its contract: a sum past an end is past the end on the prediction's side, since a table value is small.
+-- `ahead::clamped_ahead` meets its contract: a sum past an end is past the end on the prediction's side, since a table value is small.
 -- Assumes nothing.
 use mathlib.Core.Path.{_≡_, refl, sym, ap, _∙_}
 use mathlib.Core.Bool.{Bool, true, false}
@@ -12,11 +12,11 @@ use mir.Syntax.{w32}
 use mir.Facts.{toZ-ofZ}
 use Rattle.wrap.proofs.Integers.{reread, returned}
 use Rattle.wrap.proofs.Linear.{add-parts, dn, lt-false, lt-true, parts-abs, up}
 use Rattle.lms.specs.Predictor.{clamp16, pick, predicted}
 use Rattle.lms.proofs.Bounds.{clamp16-kept}
 use borrow.Author.Needs.{needs}
-use Rattle.lms.proofs.clamped_ahead.Statement.{statement}
-use Rattle.lms.proofs.clamped_ahead.Tie as tie
+use Rattle.ahead.proofs.clamped_ahead.Statement.{statement}
+use Rattle.ahead.proofs.clamped_ahead.Tie as tie
 
 -- ---- a sum past an end
 

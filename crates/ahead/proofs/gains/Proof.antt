@@ -1,4 +1,4 @@
--- `lms::gains` meets its contract. A sixteenth of a number of 32 bits has a negative of 32 bits.
+-- `ahead::gains` meets its contract. A sixteenth of a number of 32 bits has a negative of 32 bits.
 -- Assumes nothing.
 use mathlib.Core.Path.{_≡_, _∙_, ap₂}
 use mathlib.Core.List.{[], _∷_}
@@ -9,8 +9,8 @@ use lib.Signed.{shrZ}
 use mir.Facts.{toZ-ofZ}
 use mir.Syntax.{w32}
 use Rattle.wrap.proofs.Integers.{abs-fits, abs-neg, abs-shift, fits-abs, reread, shift-back}
-use Rattle.lms.proofs.gains.Statement.{statement}
-use Rattle.lms.proofs.gains.Tie as tie
+use Rattle.ahead.proofs.gains.Statement.{statement}
+use Rattle.ahead.proofs.gains.Tie as tie
 
 -- the step, as the machine holds it
 held : (s : tie.Start) → reread w32 (shrZ (reread w32 (s .args .residual)) (2 ^ 4)) ≡ shrZ (s .args .residual) (2 ^ 4)

@@ -1,4 +1,4 @@
--- `lms::moved_by` meets its contract. Each element is in its type's range, so what the machine reads back from its bits is the element.
+-- `ahead::moved_by` meets its contract. Each element is in its type's range, so what the machine reads back from its bits is the element.
 -- Assumes nothing.
 use borrow.Author.Needs.{needs}
 use mathlib.Core.Path.{_≡_, _∙_}
@@ -10,11 +10,11 @@ use Rattle.wrap.proofs.Integers.{fits-of, reread}
 use Prim.Native.Nat.{ℕ, _≤_, _<_, _^_}
 use mir.Syntax.{w32}
 use mir.Val.{SFits}
-use Rattle.lms.specs.Loop.{gained, movedBy}
+use Rattle.ahead.specs.Loop.{gained, movedBy}
 use Rattle.lms.specs.Predictor.{at}
 use Rattle.wrap.proofs.Elements.{element-field}
-use Rattle.lms.proofs.moved_by.Statement.{statement}
-use Rattle.lms.proofs.moved_by.Tie as tie
+use Rattle.ahead.proofs.moved_by.Statement.{statement}
+use Rattle.ahead.proofs.moved_by.Tie as tie
 
 in-range : (c : tie.Start) (i : ℕ) → SFits w32 (at (c .args .lms .history) i) × SFits w32 (at (c .args .lms .weights) i)
 in-range c i = (search element-field, search element-field)

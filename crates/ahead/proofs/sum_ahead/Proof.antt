@@ -1,4 +1,4 @@
--- `lms::sum_ahead` meets its contract: the sum fits.
+-- `ahead::sum_ahead` meets its contract: the sum fits.
 -- Assumes nothing.
 use mathlib.Core.Path.{_≡_, _∙_}
 use native.Mathlib.Nat.{add-le-add, le-trans}
@@ -7,11 +7,11 @@ use lib.IntN.{_+ℤ_}
 use mir.Syntax.{w32}
 use mir.Facts.{toZ-ofZ}
 use Rattle.wrap.proofs.Integers.{abs-add, fits-abs, reread, returned}
 use Rattle.lms.specs.Predictor.{predicted}
 use Rattle.lms.proofs.Bounds.{predicted-small}
 use borrow.Author.Needs.{needs}
-use Rattle.lms.proofs.sum_ahead.Statement.{statement}
-use Rattle.lms.proofs.sum_ahead.Tie as tie
+use Rattle.ahead.proofs.sum_ahead.Statement.{statement}
+use Rattle.ahead.proofs.sum_ahead.Tie as tie
 
 expect-requires : tie.Need-expect-requires
 expect-requires c κs = search needs

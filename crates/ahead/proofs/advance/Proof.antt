@@ -1,11 +1,11 @@
--- `lms::advance` meets its contract, by those of its two parts.
+-- `ahead::advance` meets its contract, by those of its two parts.
 -- Assumes nothing.
 use mathlib.Core.Path.{ap, _∙_}
 use lib.IntN.{ℤ}
 use mir.Facts.{toZ-ofZ}
-use Rattle.lms.specs.Loop.{aheadOf, movedBy}
-use Rattle.lms.proofs.advance.Statement.{statement}
-use Rattle.lms.proofs.advance.Tie as tie
+use Rattle.ahead.specs.Loop.{aheadOf, movedBy}
+use Rattle.ahead.proofs.advance.Statement.{statement}
+use Rattle.ahead.proofs.advance.Tie as tie
 
 moved-by-requires : tie.Need-moved-by-requires
 moved-by-requires c κs = c .before .pre

@@ -1,12 +1,12 @@
--- `lms::side` meets its contract.
+-- `ahead::side` meets its contract.
 -- Assumes nothing.
 use mathlib.Core.Path.{_≡_}
 use mathlib.Core.Bool.{true, false}
 use lib.IntN.{pos}
 use lib.Signed.{ltZ}
 use mir.Facts.{toZ-ofZ}
-use Rattle.lms.proofs.side.Statement.{statement}
-use Rattle.lms.proofs.side.Tie as tie
+use Rattle.ahead.proofs.side.Statement.{statement}
+use Rattle.ahead.proofs.side.Tie as tie
 
 returns : tie.Need-returns
 returns c =

@@ -1,12 +1,12 @@
--- `lms::end_of` meets its contract, by its test.
+-- `ahead::end_of` meets its contract, by its test.
 -- Assumes nothing.
 use mathlib.Core.Path.{_≡_}
 use mathlib.Core.Bool.{true, false}
 use lib.IntN.{pos}
 use lib.Signed.{ltZ}
 use mir.Facts.{toZ-ofZ}
-use Rattle.lms.proofs.end_of.Statement.{statement}
-use Rattle.lms.proofs.end_of.Tie as tie
+use Rattle.ahead.proofs.end_of.Statement.{statement}
+use Rattle.ahead.proofs.end_of.Tie as tie
 
 returns : tie.Need-returns
 returns c =

@@ -7,9 +7,9 @@ use lib.Dec.{lit<}
 use lib.IntN.{ℤ, natAbs, negℤ, pos, _+ℤ_}
 use lib.Signed.{ltZ, shrZ}
 use Rattle.wrap.proofs.Integers.{abs-neg, abs-shift}
-use Rattle.lms.specs.Loop.{gained, gainsOf, movedBy, SmallGains}
+use Rattle.ahead.specs.Loop.{gained, gainsOf, movedBy, SmallGains}
 use Rattle.lms.specs.Predictor.{at, nextWeight, pick, stepped, updated}
 use Rattle.lms.specs.declared.QoaLms.{QoaLms}
 
 either-way : (t : Bool) (w d : ℤ) → w +ℤ at (d ∷ negℤ d ∷ []) (cond t 1 0) ≡ pick t (w +ℤ negℤ d) (w +ℤ d)
 either-way true w d = refl
