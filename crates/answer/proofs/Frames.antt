@@ -18,7 +18,7 @@ use Rattle.header.specs.Grammar.{IsFrame, Passes}
 use Rattle.header.specs.Header.{headerAt, headerWord, sizeSlices}
 use Rattle.header.specs.Predictor.{lmsAt, lmsOf, noLms}
 use Rattle.header.proofs.Headers.{InRange, header-of-bytes}
-use Rattle.header.proofs.Predictors.{lms-ext}
+use Rattle.predictors.proofs.Predictors.{lms-ext}
 use Rattle.search.proofs.Fitting.{strided-length}
 use Rattle.search.proofs.Slices.{encoded-word-lt}
 use Rattle.groups.specs.Channel.{channelAt}

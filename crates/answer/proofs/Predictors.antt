@@ -17,7 +17,7 @@ use Rattle.lms.specs.declared.QoaLms.{QoaLms}
 use Rattle.trial.specs.Trial.{heard, sampleOf}
 use Rattle.trial.specs.declared.Heard.{Heard}
 use Rattle.header.specs.Predictor.{fourOf, fourWord, lmsAt, putLms}
-use Rattle.header.proofs.Predictors.{four-low, lms-of-put-low}
+use Rattle.predictors.proofs.Predictors.{four-low, lms-of-put-low}
 use Rattle.groups.specs.Channel.{channelAt, runAfter}
 use Rattle.slice.specs.Slice.{residualAt, sampleAt, stateAfter}
 use Rattle.body.specs.Laid.{lmsBytes, overlaid}

@@ -15,8 +15,8 @@ ghost use Rattle.body.specs.Laid.{laid, lmsBytes, overlaid};
 use header::frame::QOA_MAX_CHANNELS;
 use header::frame::QOA_SLICE_LEN;
 use header::frame::slices_of;
-use header::predictor::write_lms;
 use lms::QoaLms;
+use predictors::write_lms;
 
 // Stores the predictors of the used channels from a place on.
 pub fn put_states(states: [QoaLms; QOA_MAX_CHANNELS], channels: usize, out: &mut [u8], at: usize)

@@ -142,7 +142,7 @@ fn start_frame(d: QoaDecoder, bytes: &[u8], place: usize, h: FrameHeader) -> Qoa
 {
     let channels = h.channels as usize;
     let states = d.lms;
-    let lms = header::read_states(bytes, place + QOA_HEADER_SIZE, channels, states);
+    let lms = predictors::read_states(bytes, place + QOA_HEADER_SIZE, channels, states);
     let frame = state::frame_facts(h);
     let mut state = d;
     state.at = place + header::state_end(channels);

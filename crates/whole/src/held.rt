@@ -33,7 +33,7 @@ fn decode_frame(
     let channels = h.channels as usize;
     let samples = h.samples as usize;
     let unread = [lms::new_lms(); QOA_MAX_CHANNELS];
-    let states = header::read_states(bytes, at + QOA_HEADER_SIZE, channels, unread);
+    let states = predictors::read_states(bytes, at + QOA_HEADER_SIZE, channels, unread);
     let place = at + header::state_end(channels);
     groups::decode_groups(tab, states, bytes, place, channels, samples, out, start);
 }

@@ -1,4 +1,4 @@
--- `header::predictor::four_word` meets its contract: the shifted numbers share no bit. Assumes nothing.
+-- `predictors::four_word` meets its contract: the shifted numbers share no bit. Assumes nothing.
 use borrow.Author.Needs.{needs}
 use mathlib.Core.Path.{_≡_, ap, _∙_}
 use Prim.Native.Nat.{ℕ}
@@ -9,9 +9,9 @@ use Rattle.wrap.specs.Wrap.{low16}
 use Rattle.wrap.proofs.Elements.{element}
 use Rattle.wrap.proofs.Integers.{reread}
 use Rattle.lms.specs.Predictor.{at}
-use Rattle.header.proofs.Predictors.{four-joined}
-use Rattle.header.proofs.predictor.four_word.Statement.{statement}
-use Rattle.header.proofs.predictor.four_word.Tie as tie
+use Rattle.predictors.proofs.Predictors.{four-joined}
+use Rattle.predictors.proofs.four_word.Statement.{statement}
+use Rattle.predictors.proofs.four_word.Tie as tie
 
 in-range : (c : tie.Start) (i : ℕ) → SFits w32 (at (c .args .t1) i)
 in-range c i = search element

@@ -1,13 +1,13 @@
--- `header::predictor::read_states` meets its contract. The invariant: the states passed are stored. Assumes nothing.
+-- `predictors::read_states` meets its contract. The invariant: the states passed are stored. Assumes nothing.
 use mathlib.Core.Path.{_≡_, refl}
 use Prim.Native.Nat.{_+_, _-_, _*_, _≤_}
 use native.Mathlib.Nat.{mul-one, zero-add}
 use native.Mathlib.Numerals.{add-one}
 use native.Mathlib.Omega.{arith}
 use Rattle.word.specs.Written.{written}
 use Rattle.header.specs.Predictor.{lmsAt}
-use Rattle.header.proofs.predictor.read_states.Statement.{statement}
-use Rattle.header.proofs.predictor.read_states.Tie as tie
+use Rattle.predictors.proofs.read_states.Statement.{statement}
+use Rattle.predictors.proofs.read_states.Tie as tie
 
 abbrev Inv-loop : tie.InvT-loop
 Inv-loop bytes at channels all₀ j₀ all j = (j ≤ channels) × (all ≡ written (λ k. lmsAt bytes (at + 16 * k)) all₀ 0 1 j)

@@ -1,11 +1,11 @@
--- `header::predictor::read_lms` meets its contract. Assumes nothing.
+-- `predictors::read_lms` meets its contract. Assumes nothing.
 use borrow.Author.Needs.{needs}
 use mathlib.Core.Path.{ap, _∙_}
 use Rattle.header.specs.Predictor.{fourOf, lmsAt}
 use Rattle.word.proofs.Fields.{AreBytes}
-use Rattle.header.proofs.Predictors.{four-of-bytes}
-use Rattle.header.proofs.predictor.read_lms.Statement.{statement}
-use Rattle.header.proofs.predictor.read_lms.Tie as tie
+use Rattle.predictors.proofs.Predictors.{four-of-bytes}
+use Rattle.predictors.proofs.read_lms.Statement.{statement}
+use Rattle.predictors.proofs.read_lms.Tie as tie
 
 read-u64-requires : tie.Need-read-u64-requires
 read-u64-requires c κs = search needs

@@ -1,4 +1,4 @@
--- `header::predictor::number_in` meets its contract: the mask is a remainder. Assumes nothing.
+-- `predictors::number_in` meets its contract: the mask is a remainder. Assumes nothing.
 use borrow.Author.Needs.{needs}
 use mathlib.Core.Path.{_∙_, ap}
 use Prim.Native.Nat.{_/_, _^_}
@@ -7,8 +7,8 @@ use lib.Dec.{lit≤}
 use mir.Syntax.{w16, w32}
 use mir.Val.{toZ}
 use Rattle.wrap.proofs.Integers.{fits-of, widen-back, widen-fits}
-use Rattle.header.proofs.predictor.number_in.Statement.{statement}
-use Rattle.header.proofs.predictor.number_in.Tie as tie
+use Rattle.predictors.proofs.number_in.Statement.{statement}
+use Rattle.predictors.proofs.number_in.Tie as tie
 
 shr-signed16 : tie.Need-shr-signed16
 shr-signed16 c = search needs

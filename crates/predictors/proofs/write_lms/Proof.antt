@@ -1,8 +1,8 @@
--- `header::predictor::write_lms` meets its contract. Assumes nothing.
+-- `predictors::write_lms` meets its contract. Assumes nothing.
 use borrow.Author.Needs.{needs}
 use Rattle.header.specs.Predictor.{putLms}
-use Rattle.header.proofs.predictor.write_lms.Statement.{statement}
-use Rattle.header.proofs.predictor.write_lms.Tie as tie
+use Rattle.predictors.proofs.write_lms.Statement.{statement}
+use Rattle.predictors.proofs.write_lms.Tie as tie
 
 four-word-requires : tie.Need-four-word-requires
 four-word-requires c κs = search needs

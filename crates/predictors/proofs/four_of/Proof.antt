@@ -1,12 +1,12 @@
--- `header::predictor::four_of` meets its contract. Assumes nothing.
+-- `predictors::four_of` meets its contract. Assumes nothing.
 use borrow.Author.Needs.{needs}
 use mathlib.Core.List.{[], _∷_}
 use mir.Syntax.{w32}
 use Rattle.word.specs.Written.{table}
 use Rattle.wrap.proofs.Integers.{returned}
 use Rattle.header.specs.Predictor.{fourOf}
-use Rattle.header.proofs.predictor.four_of.Statement.{statement}
-use Rattle.header.proofs.predictor.four_of.Tie as tie
+use Rattle.predictors.proofs.four_of.Statement.{statement}
+use Rattle.predictors.proofs.four_of.Tie as tie
 
 number-in-requires : tie.Need-number-in-requires
 number-in-requires c κs = search needs

@@ -7,9 +7,9 @@ ghost use mir.Val.{toZ};
 ghost use Rattle.word.specs.Word.{field};
 ghost use Rattle.word.specs.Written.{written};
 ghost use Rattle.wrap.specs.Wrap.{low16};
 ghost use Rattle.header.specs.Format.{maxChannels};
 ghost use Rattle.header.specs.Predictor.{fourOf, fourWord, lmsAt, putLms};
-use crate::frame::QOA_MAX_CHANNELS;
+use header::frame::QOA_MAX_CHANNELS;
 use lms::QoaLms;
 
 // The signed 16-bit number that has so many bits below it.

@@ -1,4 +1,4 @@
--- `header::predictor::low_half` meets its contract: the low 16 of the low 32 bits. Assumes nothing.
+-- `predictors::low_half` meets its contract: the low 16 of the low 32 bits. Assumes nothing.
 use borrow.Author.Needs.{needs}
 use mathlib.Core.Path.{_∙_, ap}
 use Prim.Native.Nat.{ℕ, _%_, _^_}
@@ -7,9 +7,9 @@ use lib.Bits.{and-mask, mask-lt}
 use lib.Dec.{lit≤}
 use mir.Facts.{toZ-ofZ}
 use Rattle.wrap.specs.Wrap.{low16}
-use Rattle.header.proofs.Predictors.{low-low}
-use Rattle.header.proofs.predictor.low_half.Statement.{statement}
-use Rattle.header.proofs.predictor.low_half.Tie as tie
+use Rattle.predictors.proofs.Predictors.{low-low}
+use Rattle.predictors.proofs.low_half.Statement.{statement}
+use Rattle.predictors.proofs.low_half.Tie as tie
 
 pattern-requires : tie.Need-pattern-requires
 pattern-requires c κs = search needs
