@@ -31,11 +31,13 @@ use Rattle.frames.proofs.Settled as F
 use Rattle.decoder.proofs.Settled as D
 use Rattle.format.specs.Reader.{audioIn, decode}
 use Rattle.format.specs.Streaming.{streamed}
-use Rattle.whole.specs.Told.{countIn, heardIn, kept, summaryIn, toldDecoded, toldFrames, toldNeed}
+use Rattle.survey.specs.Told.{toldFrames}
+use Rattle.whole.specs.Told.{countIn, heardIn, kept, summaryIn, toldDecoded, toldNeed}
 use Rattle.whole.specs.declared.answer.DecodeAnswer.{DecodeAnswer}
 use Rattle.whole.specs.declared.answer.NeedAnswer.{NeedAnswer}
-use Rattle.whole.specs.declared.answer.FramesAnswer.{FramesAnswer}
-use Rattle.whole.proofs.Answers.{told-decoded, told-frames, told-need}
+use Rattle.survey.specs.declared.FramesAnswer.{FramesAnswer}
+use Rattle.survey.proofs.Answers.{told-frames}
+use Rattle.whole.proofs.Answers.{told-decoded, told-need}
 use Rattle.reader.specs.Read.{FrameRead, IntoRead, ItemRead}
 use Rattle.reader.specs.declared.FramePart.{FramePart}
 use Rattle.reader.specs.declared.OpenedReader.{OpenedReader}

@@ -11,10 +11,10 @@ ghost use Rattle.format.specs.Frame.{frameSamples};
 ghost use Rattle.format.specs.Walk.{frameAt};
 ghost use Rattle.whole.specs.Told.{kept};
 ghost use Rattle.whole.specs.Held.{HasRoom, held};
-use crate::survey::sample_count;
 use header::frame::FrameHeader;
 use header::frame::QOA_HEADER_SIZE;
 use header::frame::QOA_MAX_CHANNELS;
+use survey::sample_count;
 
 // The frame at a place, its samples stored from `start` on.
 fn decode_frame(
