@@ -8,8 +8,8 @@ use native.Mathlib.Omega.{arith}
 use lib.Arith.{digits-lt}
 use lib.ListN.{length, getD, List·getD-append}
 use lib.Seq.{getD-append-add}
-use Rattle.encoder.specs.Frame.{laid}
-use Rattle.encoder.proofs.Laids.{length-laid}
+use Rattle.body.specs.Laid.{laid}
+use Rattle.body.proofs.Laids.{length-laid}
 
 pub at-block : (m : ℕ) (f : ℕ → List ℕ) → ((i : ℕ) → length (f i) ≡ m) → (n i r : ℕ) → i < n → r < m → getD (laid n f) (i * m + r) 0 ≡ getD (f i) r 0
 unfolding laid

@@ -19,9 +19,10 @@ use Rattle.search.specs.Candidate.{after, beats, candidate, exceeds, runFrom, s
 use Rattle.search.specs.Search.{bestAfter, chosen, dearer, encodedSlice, firstCost, insert, leaderOf, ordered, searched, strided, traceFrom, traceOf, unheard}
 use Rattle.search.specs.Reconstruction.{reconstructed, sumsTried}
 use Rattle.format.proofs.Examples.{oneSample}
-use Rattle.encoder.specs.Channel.{lmsBefore, slicePart, sliceWord, sumAt}
+use Rattle.body.specs.Channel.{lmsBefore, slicePart, sliceWord, sumAt}
 use Rattle.encoder.specs.Encoder.{createRules, goodEncoder, newView}
-use Rattle.encoder.specs.Frame.{firstWide, frameBytes, frameSums, laid}
+use Rattle.body.specs.Laid.{laid}
+use Rattle.encoder.specs.Frame.{firstWide, frameBytes, frameSums}
 use Rattle.oneshot.specs.OneShot.{before, bytesBefore, chunk, framesIn, needOf, shotRules, stopIn, sumsBefore}
 use Rattle.encoder.specs.Head.{headBytes}
 use Rattle.oneshot.specs.Shots.{shotTold}

@@ -18,21 +18,22 @@ use Rattle.header.specs.Grammar.{IsFrame, Passes}
 use Rattle.header.specs.Header.{headerAt, headerWord, sizeSlices}
 use Rattle.header.specs.Predictor.{lmsAt, lmsOf, noLms}
 use Rattle.header.proofs.Headers.{InRange, header-of-bytes}
-use Rattle.header.proofs.Predictors.{lms-ext}
+use Rattle.predictors.proofs.Predictors.{lms-ext}
 use Rattle.search.proofs.Fitting.{strided-length}
 use Rattle.search.proofs.Slices.{encoded-word-lt}
-use Rattle.slice.specs.Channel.{channelAt}
-use Rattle.slice.specs.Groups.{groupsAt}
-use Rattle.slice.specs.Groups as Groups
-use Rattle.slice.proofs.Runs.{channel-ext}
+use Rattle.groups.specs.Channel.{channelAt}
+use Rattle.groups.specs.Groups.{groupsAt}
+use Rattle.groups.specs.Groups as Groups
+use Rattle.groups.proofs.Runs.{channel-ext}
 use Rattle.format.specs.Frame.{frameSamples, frameStates}
-use Rattle.encoder.specs.Channel.{lmsBefore, slicePart, sliceWord, sumAt}
+use Rattle.body.specs.Channel.{lmsBefore, slicePart, sliceWord, sumAt}
 use Rattle.encoder.specs.Encoder.{View}
-use Rattle.encoder.specs.Frame.{channelOf, firstWide, frameBytes, frameSums, groupBytes, headerFor, laid, lmsBytes, perChannel, stateBytes}
-use Rattle.encoder.proofs.Channels.{length-part}
+use Rattle.body.specs.Laid.{laid, lmsBytes}
+use Rattle.encoder.specs.Frame.{channelOf, firstWide, frameBytes, frameSums, groupBytes, headerFor, perChannel, stateBytes}
+use Rattle.body.proofs.Channels.{length-part}
 use Rattle.encoder.proofs.Frames.{length-frame, length-sums}
 use Rattle.encoder.proofs.GoodEncoders.{Good}
-use Rattle.encoder.proofs.Laids.{length-lms, length-states, length-words}
+use Rattle.body.proofs.Laids.{length-lms, length-states, length-words}
 use Rattle.state.proofs.GoodStates.{short-fits}
 use Rattle.encoder.proofs.Wides.{wide-none}
 use Rattle.answer.proofs.Blocks.{at-block}

@@ -17,12 +17,11 @@ use Rattle.lms.specs.declared.QoaLms.{QoaLms}
 use Rattle.trial.specs.Trial.{heard, sampleOf}
 use Rattle.trial.specs.declared.Heard.{Heard}
 use Rattle.header.specs.Predictor.{fourOf, fourWord, lmsAt, putLms}
-use Rattle.header.proofs.Predictors.{four-low, lms-of-put-low}
-use Rattle.slice.specs.Channel.{channelAt, runAfter}
+use Rattle.predictors.proofs.Predictors.{four-low, lms-of-put-low}
+use Rattle.groups.specs.Channel.{channelAt, runAfter}
 use Rattle.slice.specs.Slice.{residualAt, sampleAt, stateAfter}
-use Rattle.encoder.specs.Frame.{lmsBytes}
-use Rattle.encoder.specs.Parts.{overlaid}
-use Rattle.encoder.proofs.Laids.{length-lms, over-lms}
+use Rattle.body.specs.Laid.{lmsBytes, overlaid}
+use Rattle.body.proofs.Laids.{length-lms, over-lms}
 
 -- the first four of each
 abbrev pub firstFour : QoaLms → QoaLms

@@ -20,20 +20,24 @@ use Rattle.state.specs.declared.FactsAnswer.{FactsAnswer}
 use Rattle.state.specs.declared.OpenedDecoder.{OpenedDecoder}
 use Rattle.state.specs.declared.QoaDecoder.{QoaDecoder}
 use Rattle.state.proofs.Settled as S
-use Rattle.decoder.specs.Into.{IntoDone}
-use Rattle.decoder.specs.Frames.{NextDone}
+use Rattle.into.specs.Into.{IntoDone}
+use Rattle.frames.specs.Frames.{NextDone}
 use Rattle.decoder.specs.Items.{ItemDone}
-use Rattle.decoder.specs.declared.DecodedInto.{DecodedInto}
-use Rattle.decoder.specs.declared.NextFrame.{NextFrame}
+use Rattle.into.specs.declared.DecodedInto.{DecodedInto}
+use Rattle.frames.specs.declared.NextFrame.{NextFrame}
 use Rattle.decoder.specs.declared.NextItem.{NextItem}
+use Rattle.into.proofs.Settled as I
+use Rattle.frames.proofs.Settled as F
 use Rattle.decoder.proofs.Settled as D
 use Rattle.format.specs.Reader.{audioIn, decode}
 use Rattle.format.specs.Streaming.{streamed}
-use Rattle.whole.specs.Told.{countIn, heardIn, kept, summaryIn, toldDecoded, toldFrames, toldNeed}
+use Rattle.survey.specs.Told.{toldFrames}
+use Rattle.whole.specs.Told.{countIn, heardIn, kept, summaryIn, toldDecoded, toldNeed}
 use Rattle.whole.specs.declared.answer.DecodeAnswer.{DecodeAnswer}
 use Rattle.whole.specs.declared.answer.NeedAnswer.{NeedAnswer}
-use Rattle.whole.specs.declared.answer.FramesAnswer.{FramesAnswer}
-use Rattle.whole.proofs.Answers.{told-decoded, told-frames, told-need}
+use Rattle.survey.specs.declared.FramesAnswer.{FramesAnswer}
+use Rattle.survey.proofs.Answers.{told-frames}
+use Rattle.whole.proofs.Answers.{told-decoded, told-need}
 use Rattle.reader.specs.Read.{FrameRead, IntoRead, ItemRead}
 use Rattle.reader.specs.declared.FramePart.{FramePart}
 use Rattle.reader.specs.declared.OpenedReader.{OpenedReader}
@@ -74,10 +78,10 @@ facts-given d bs = S.facts-settled d (length bs)
 
 pub decode-into : (bs : List ℕ) (d : QoaDecoder) (out : List ℤ) (r s : DecodedInto) (x y : List ℤ) → IntoDone bs d out r x → IntoDone bs d out s y
     → (r .answer ≡ s .answer) × (view (r .state) ≡ view (s .state)) × (x ≡ y)
-decode-into = D.decode-into-settled
+decode-into = I.decode-into-settled
 
 pub next-frame : (bs : List ℕ) (d : QoaDecoder) (r s : NextFrame) → NextDone bs d r → NextDone bs d s → (r .answer ≡ s .answer) × (view (r .state) ≡ view (s .state))
-next-frame = D.next-frame-settled
+next-frame = F.next-frame-settled
 
 pub next-item : (bs : List ℕ) (d : QoaDecoder) (r s : NextItem) → ItemDone bs d r → ItemDone bs d s → (r .item ≡ s .item) × (view (r .state) ≡ view (s .state))
 next-item = D.next-item-settled

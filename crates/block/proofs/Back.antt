@@ -26,7 +26,7 @@ use Rattle.state.specs.View.{View}
 use Rattle.state.specs.declared.ProcessingMode.{ProcessingMode}
 use Rattle.state.specs.declared.ProcessingMode.the-variants.{FixedSamples, Streaming}
 use Rattle.encoder.specs.Encoder as E
-use Rattle.encoder.specs.Frame.{laid}
+use Rattle.body.specs.Laid.{laid}
 use Rattle.block.specs.DecoderBlock.{byteIn, decoderBytes, decoderIn, frameBytes, frameIn, modeBytes, modeIn, pendingAt, pendingBytes, restBytes, sampleIn}
 use Rattle.block.specs.EncoderBlock.{encoderBytes, encoderIn}
 use Rattle.block.specs.Predictors.{fourBytes, fourIn, predictorBytes, predictorIn, predictorsBytes, predictorsIn}

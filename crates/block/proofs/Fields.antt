@@ -10,8 +10,8 @@ use lib.Dec.{ltb}
 use lib.ListN.{getD, length}
 use Rattle.word.specs.Bytes.{be, bytesOf}
 use Rattle.word.proofs.BytesLaws.{be-append, be-of-bytes, be-past, length-bytes}
-use Rattle.encoder.specs.Frame.{laid}
-use Rattle.encoder.proofs.Laids.{length-laid}
+use Rattle.body.specs.Laid.{laid}
+use Rattle.body.proofs.Laids.{length-laid}
 
 -- a byte is a number
 pub be-one : (bs : List ℕ) (p : ℕ) → be 1 bs p ≡ getD bs p 0

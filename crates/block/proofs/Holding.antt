@@ -17,8 +17,8 @@ use Rattle.word.proofs.Writes.{written-at}
 use Rattle.lms.specs.declared.QoaLms.{QoaLms}
 use Rattle.header.specs.Format.{maxChannels}
 use Rattle.header.specs.Predictor.{lmsOf, noLms}
-use Rattle.encoder.specs.Frame.{laid}
-use Rattle.encoder.proofs.Laids.{laid-ext}
+use Rattle.body.specs.Laid.{laid}
+use Rattle.body.proofs.Laids.{laid-ext}
 use Rattle.state.specs.Opening.{zeroLms}
 use Rattle.state.specs.View.{view}
 use Rattle.state.specs.declared.QoaDecoder.{QoaDecoder}

@@ -5,8 +5,8 @@ use mathlib.Core.List.{List, _++_}
 use native.Mathlib.Omega.{arith}
 use lib.ListN.{length}
 use Rattle.word.specs.Bytes.{bytesOf, put}
-use Rattle.encoder.specs.Parts.{overlaid}
-use Rattle.encoder.proofs.Overlays.{length-over, over-put, over-then}
+use Rattle.body.specs.Laid.{overlaid}
+use Rattle.body.proofs.Overlays.{length-over, over-put, over-then}
 
 pub then-number : (out : List ℕ) (p : ℕ) (xs : List ℕ) (q : ℕ) → q ≡ p + length xs → (n w : ℕ) → q + n ≤ length out
     → put n (overlaid out p xs) q w ≡ overlaid out p (xs ++ bytesOf n w)

@@ -19,10 +19,11 @@ use Rattle.state.specs.declared.ProcessingMode.{ProcessingMode}
 use Rattle.state.specs.declared.ProcessingMode.the-variants.{FixedSamples, Streaming}
 use Rattle.encoder.specs.Calls.{onto}
 use Rattle.encoder.specs.Encoder as E
-use Rattle.encoder.specs.Frame.{laid}
-use Rattle.encoder.specs.Parts.{overlaid}
-use Rattle.encoder.proofs.Laids.{length-laid}
-use Rattle.encoder.proofs.Overlays.{over-put, over-start, over-then}
+use Rattle.body.specs.Laid.{laid}
+use Rattle.body.specs.Laid.{overlaid}
+use Rattle.body.proofs.Laids.{length-laid}
+use Rattle.body.proofs.Overlays.{over-put, over-then}
+use Rattle.encoder.proofs.Heads.{over-start}
 use Rattle.block.specs.Predictors.{fourBytes, predictorBytes, predictorsBytes}
 use Rattle.block.specs.DecoderBlock.{decoderBytes, decoderSize, fixedBytes, frameBytes, modeBytes, pendingAt, pendingBytes, restBytes}
 use Rattle.block.specs.EncoderBlock.{encoderBytes, encoderSize}

@@ -11,7 +11,7 @@ use Rattle.wrap.specs.Wrap.{low16}
 use Rattle.word.specs.Bytes.{be16, be32, be64, bytesOf}
 use Rattle.word.specs.Written.{table}
 use Rattle.header.specs.Format.{maxChannels}
-use Rattle.encoder.specs.Frame.{laid}
+use Rattle.body.specs.Laid.{laid}
 use Rattle.state.specs.View.{View}
 use Rattle.state.specs.declared.FrameFacts.{FrameFacts}
 use Rattle.state.specs.declared.ProcessingMode.{ProcessingMode}

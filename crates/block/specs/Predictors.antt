@@ -11,7 +11,7 @@ use Rattle.lms.specs.Predictor.{at}
 use Rattle.lms.specs.declared.QoaLms.{QoaLms}
 use Rattle.header.specs.Format.{maxChannels}
 use Rattle.header.specs.Predictor.{lmsOf}
-use Rattle.encoder.specs.Frame.{laid}
+use Rattle.body.specs.Laid.{laid}
 
 -- ---- read
 

@@ -10,7 +10,7 @@ ghost use Rattle.word.specs.Written.{table};
 ghost use Rattle.header.specs.Format.{maxChannels};
 ghost use Rattle.header.specs.Predictor.{lmsOf};
 ghost use Rattle.state.specs.Opening.{zeroLms};
-ghost use Rattle.encoder.specs.Parts.{overlaid};
+ghost use Rattle.body.specs.Laid.{overlaid};
 ghost use Rattle.block.specs.Predictors.{fourBytes, fourIn, predictorBytes, predictorIn, predictorsBytes, predictorsIn};
 use header::frame::QOA_LMS_LEN;
 use header::frame::QOA_MAX_CHANNELS;

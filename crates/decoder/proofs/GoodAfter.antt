@@ -22,22 +22,22 @@ use Rattle.header.specs.Header.{headerAt, leftAt}
 use Rattle.header.specs.Predictor.{lmsOf, noLms}
 use Rattle.word.proofs.Fields.{AreBytes}
 use Rattle.header.proofs.Headers.{passes}
-use Rattle.slice.specs.Channel.{runAfter}
-use Rattle.slice.specs.Groups.{sliceWord}
-use Rattle.slice.proofs.Fits.{run-fits}
-use Rattle.slice.proofs.Growth.{run-within}
+use Rattle.groups.specs.Channel.{runAfter}
+use Rattle.groups.specs.Groups.{sliceWord}
+use Rattle.groups.proofs.Fits.{run-fits}
+use Rattle.groups.proofs.Growth.{run-within}
 use Rattle.state.specs.View.{View, channelsOf, waiting}
 use Rattle.state.specs.States.{goodState, weightBound}
 use Rattle.state.proofs.Bounds.{bound-grows}
 use Rattle.state.proofs.GoodStates.{Good, facts-good, good-facts}
 use Rattle.state.proofs.OpenedStates.{read-good}
-use Rattle.decoder.specs.Into.{endAfter, groupsEnd, groupsFor, groupsLms, groupsSamples, intoAfter, intoCount, intoGroups, intoRules, nextAfter, takenFrom}
-use Rattle.decoder.specs.Frames as Frames
-use Rattle.decoder.specs.Frames.{dropped, enterRules, entered, enteredOr, frameRules, nextRules}
-use Rattle.decoder.specs.Items.{Turn, first-header, flagged, from-group, from-next, from-pending, itemAfter, itemRules, settled, turnAfter, turnOf, turnRules}
-use Rattle.decoder.proofs.Counts.{slices-cover}
-use Rattle.decoder.proofs.FrameLaws.{frame-passed}
-use Rattle.decoder.proofs.Ranges.{range-le, range-order}
+use Rattle.into.specs.Into.{endAfter, flagged, groupsEnd, groupsFor, groupsLms, groupsSamples, intoAfter, intoCount, intoGroups, intoRules, nextAfter, takenFrom}
+use Rattle.frames.specs.Frames as Frames
+use Rattle.frames.specs.Frames.{dropped, enterRules, entered, enteredOr, frameRules, nextRules}
+use Rattle.decoder.specs.Items.{Turn, first-header, from-group, from-next, from-pending, itemAfter, itemRules, settled, turnAfter, turnOf, turnRules}
+use Rattle.into.proofs.Counts.{slices-cover}
+use Rattle.frames.proofs.FrameLaws.{frame-passed}
+use Rattle.into.proofs.Ranges.{range-le, range-order}
 
 -- a rule that is quiet about a test
 is-true : (b : Bool) → T (not (not b)) → b ≡ true

@@ -20,15 +20,15 @@ use Rattle.header.specs.declared.refusal.Refusal.the-variants.{BadState, Trunca
 use Rattle.state.specs.View.{view, waiting}
 use Rattle.state.specs.States.{goodState}
 use Rattle.state.specs.declared.QoaDecoder.{QoaDecoder}
-use Rattle.decoder.specs.Into.{comingAt, groupsFor, takenFrom}
-use Rattle.decoder.specs.Frames.{EnterDone, Found, a-frame, enterRules, enteredOr, foundAt, no-frame, toldFrame}
-use Rattle.decoder.specs.Items.{Item, ItemDone, Turn, TurnDone, first-header, flagged, from-group, from-next, from-pending, itemAfter, itemIn, itemOf, itemRules, settled, toldItem, turnOf, turnRules}
-use Rattle.decoder.specs.declared.NextFrame.{NextFrame}
+use Rattle.into.specs.Into.{comingAt, flagged, groupsFor, takenFrom}
+use Rattle.frames.specs.Frames.{EnterDone, Found, a-frame, enterRules, enteredOr, foundAt, no-frame, toldFrame}
+use Rattle.decoder.specs.Items.{Item, ItemDone, Turn, TurnDone, first-header, from-group, from-next, from-pending, itemAfter, itemIn, itemOf, itemRules, settled, toldItem, turnOf, turnRules}
+use Rattle.frames.specs.declared.NextFrame.{NextFrame}
 use Rattle.decoder.specs.declared.NextItem.{NextItem}
-use Rattle.decoder.specs.declared.FrameAnswer as F
+use Rattle.frames.specs.declared.FrameAnswer as F
 use Rattle.decoder.specs.declared.QoaItem as Q
-use Rattle.decoder.proofs.Counts.{groups-one}
-use Rattle.decoder.proofs.Coming.{coming-pending}
+use Rattle.into.proofs.Counts.{groups-one}
+use Rattle.into.proofs.Coming.{coming-pending}
 
 -- a state with no sample pending
 pub view-settled : (d : QoaDecoder)

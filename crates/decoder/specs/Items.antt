@@ -1,7 +1,7 @@
 -- The item step: pending samples before all else, then the first header, the samples of the frame, and the next frame. Assumes nothing.
 use Prim.Native.Nat.{ℕ}
 use mathlib.Core.Path.{_≡_}
-use mathlib.Core.Bool.{Bool, true, not, cond}
+use mathlib.Core.Bool.{true, not, cond}
 use mathlib.Core.List.{List, [], _∷_}
 use lib.Dec.{ltb}
 use lib.IntN.{ℤ}
@@ -11,9 +11,9 @@ use Rattle.header.specs.Refusals.{numberOf}
 use Rattle.state.specs.View.{View, view, waiting}
 use Rattle.state.specs.States.{goodState}
 use Rattle.state.specs.declared.QoaDecoder.{QoaDecoder}
-use Rattle.decoder.specs.Left.{Leaves}
-use Rattle.decoder.specs.Into.{comingAt, groupsEnd, takenFrom}
-use Rattle.decoder.specs.Frames.{Found, a-frame, no-frame, enterRules, enteredOr, foundAt}
+use Rattle.into.specs.Left.{Leaves}
+use Rattle.into.specs.Into.{comingAt, flagged, groupsEnd, takenFrom}
+use Rattle.frames.specs.Frames.{Found, a-frame, no-frame, enterRules, enteredOr, foundAt}
 use Rattle.state.specs.declared.FrameFacts.{FrameFacts}
 use Rattle.decoder.specs.declared.NextItem.{NextItem}
 use Rattle.decoder.specs.declared.QoaItem.{QoaItem}
@@ -32,7 +32,7 @@ pub data Turn : Type 0 where
 unfoldable pub turnOf : View → Turn
 turnOf v = cond (ltb 0 (waiting v)) from-pending (cond (not (v .given)) first-header (cond (ltb 0 (v .remaining)) from-group from-next))
 
--- a state with no sample pending, or with its flag as it was
+-- a state with no sample pending
 abbrev pub settled : View → View
 settled v = record {
   mode = v .mode;
@@ -43,19 +43,6 @@ settled v = record {
   end = 0;
   pending = [];
   given = true;
-  lms = v .lms;
-}
-
-abbrev pub flagged : Bool → View → View
-flagged given v = record {
-  mode = v .mode;
-  at = v .at;
-  frame = v .frame;
-  remaining = v .remaining;
-  next = v .next;
-  end = v .end;
-  pending = v .pending;
-  given = given;
   lms = v .lms;
 }
 

@@ -9,14 +9,14 @@ ghost use Rattle.state.specs.View.{view};
 ghost use Rattle.state.specs.States.{goodState};
 ghost use Rattle.decoder.specs.declared.QoaItem.the-variants.{Refused};
 ghost use Rattle.decoder.specs.Items.{ItemDone, TurnDone, first-header, from-group, from-next, from-pending, settled};
-use crate::FrameAnswer;
 use crate::NextItem;
 use crate::QoaItem;
-use crate::frames::enter_frame;
-use crate::into::after_pending;
-use crate::into::decode_more;
+use frames::FrameAnswer;
+use frames::enter_frame;
 use header::frame::QOA_HEADER_SIZE;
 use header::refusal::Refusal;
+use into::after_pending;
+use into::decode_more;
 use state::QoaDecoder;
 
 // The first of the pending samples.

@@ -1,37 +1,16 @@
-// The calls on a decoder, with the caller's bytes.
-pub mod frames;
-pub mod into;
+// The calls on a decoder, with the caller's bytes: decoding into a buffer, the next frame, and the item step, which is made here of both.
 pub mod items;
 
+pub use frames::FrameAnswer;
+pub use frames::NextFrame;
 pub use frames::next_frame;
 use header::refusal::Refusal;
+pub use into::DecodedInto;
+pub use into::IntoAnswer;
 pub use into::decode_into;
 pub use items::next_item;
 use state::FrameFacts;
 use state::QoaDecoder;
-
-// How many samples were written.
-pub enum IntoAnswer {
-    Count(usize),
-    Refused(Refusal),
-}
-
-pub struct DecodedInto {
-    pub answer: IntoAnswer,
-    pub state: QoaDecoder,
-}
-
-// The next frame, or the end.
-pub enum FrameAnswer {
-    Frame(FrameFacts),
-    End,
-    Refused(Refusal),
-}
-
-pub struct NextFrame {
-    pub answer: FrameAnswer,
-    pub state: QoaDecoder,
-}
 
 // The next item: a frame header, a sample, or the end.
 pub enum QoaItem {

@@ -18,10 +18,11 @@ use Rattle.header.specs.Predictor.{fourWord, lmsOf}
 use Rattle.word.proofs.Fields.{AreBytes, are-bytes}
 use Rattle.search.proofs.Slices.{encoded-word-lt}
 use Rattle.encoder.specs.Encoder.{View}
-use Rattle.encoder.specs.Channel.{lmsBefore, slicePart, sliceWord}
-use Rattle.encoder.specs.Frame.{frameBytes, groupBytes, headerFor, laid, perChannel, stateBytes}
+use Rattle.body.specs.Channel.{lmsBefore, slicePart, sliceWord}
+use Rattle.body.specs.Laid.{laid}
+use Rattle.encoder.specs.Frame.{frameBytes, groupBytes, headerFor, perChannel, stateBytes}
 use Rattle.encoder.specs.Head.{headBytes}
-use Rattle.encoder.proofs.Channels.{length-part}
+use Rattle.body.proofs.Channels.{length-part}
 
 pub append-bytes : (xs ys : List ℕ) → AreBytes xs → AreBytes ys → AreBytes (xs ++ ys)
 append-bytes xs ys p q i =

@@ -18,14 +18,15 @@ use Rattle.header.specs.Predictor.{lmsOf, noLms}
 use Rattle.search.specs.Search.{strided}
 use Rattle.search.proofs.Fitting.{strided-length}
 use Rattle.encoder.specs.Encoder.{View, view, goodEncoder}
-use Rattle.encoder.specs.Channel.{lmsBefore, sliceWord}
-use Rattle.encoder.specs.Frame.{afterFrame, channelOf, firstWide, frameBytes, frameSums, groupBytes, headerFor, laid, lmsBytes, perChannel, stateBytes}
-use Rattle.encoder.specs.Parts.{FrameFits, overlaid}
+use Rattle.body.specs.Channel.{lmsBefore, sliceWord}
+use Rattle.body.specs.Laid.{laid, lmsBytes, overlaid}
+use Rattle.encoder.specs.Frame.{afterFrame, channelOf, firstWide, frameBytes, frameSums, groupBytes, headerFor, perChannel, stateBytes}
+use Rattle.encoder.specs.Parts.{FrameFits}
 use Rattle.encoder.specs.declared.QoaEncoder.{QoaEncoder}
-use Rattle.encoder.proofs.Channels.{before-fits}
+use Rattle.body.proofs.Channels.{before-fits}
 use Rattle.encoder.proofs.GoodEncoders.{Good, facts-good, view-lms}
-use Rattle.encoder.proofs.Laids.{laid-ext, length-laid, length-states, length-words}
-use Rattle.encoder.proofs.Overlays.{over-put, over-then}
+use Rattle.body.proofs.Laids.{laid-ext, length-laid, length-states, length-words}
+use Rattle.body.proofs.Overlays.{over-put, over-then}
 use Rattle.encoder.proofs.Wides.{short-within, wide-ext, wide-none}
 
 -- ---- lengths

@@ -1,16 +1,23 @@
--- Laws of the file header's bytes. Assumes nothing.
+-- Laws of bytes at the start of an output, and of the file header's. Assumes nothing.
 use Prim.Native.Nat.{ℕ, _+_, _*_, _/_, _%_, _^_, _≤_, _<_}
 use mathlib.Core.Path.{_≡_, ap, _∙_}
 use mathlib.Core.List.{List, [], _∷_, _++_}
+use native.Mathlib.Nat.{zero-add}
 use native.Mathlib.Omega.{arith}
 use lib.ListN.{length, length-append}
 use Rattle.word.specs.Bytes.{byteOf, bytesOf, put}
 use Rattle.word.specs.Written.{table}
 use Rattle.word.proofs.BytesLaws.{length-bytes}
 use Rattle.header.specs.FileHeader.{fileWord, magic}
+use Rattle.body.specs.Laid.{overlaid}
+use Rattle.body.proofs.Overlays.{over-put}
 use Rattle.encoder.specs.Head.{headBytes}
 use Rattle.encoder.specs.Calls.{onto}
-use Rattle.encoder.proofs.Overlays.{over-put, over-start}
+
+-- laid over it from the start
+pub over-start : (out xs : List ℕ) → overlaid out 0 xs ≡ onto out xs
+unfolding overlaid
+over-start out xs = rw zero-add
 
 -- the word's upper half is `qoaf`, and its lower half has the total's bytes
 module _ (total : ℕ) (h : total < 2 ^ 32) where

@@ -1,7 +1,4 @@
 -- Laws for the crates above.
-pub mod Overlays
-pub mod Laids
-pub mod Channels
 pub mod Wides
 pub mod GoodEncoders
 pub mod Heads

@@ -1,5 +1,5 @@
 -- A frame: its bytes, the state after it, its refusals, and the writer's reconstruction of it. Assumes nothing.
-use Prim.Native.Nat.{ℕ, zero, suc, _+_, _*_, _/_, _%_}
+use Prim.Native.Nat.{ℕ, zero, suc, _*_, _/_, _%_}
 use mathlib.Core.Bool.{Bool, not, cond}
 use mathlib.Core.List.{List, [], _∷_, _++_}
 use mathlib.Core.Option.{Option, none, some}
@@ -9,16 +9,16 @@ use lib.ListN.{length}
 use Rattle.word.specs.Bytes.{bytesOf}
 use Rattle.word.specs.Rules.{Rule, _gives_}
 use Rattle.word.specs.Written.{table}
-use Rattle.lms.specs.Predictor.{at}
 use Rattle.lms.specs.declared.QoaLms.{QoaLms}
 use Rattle.header.specs.Format.{frameLength, slicesOf}
 use Rattle.header.specs.Header.{headerWord}
-use Rattle.header.specs.Predictor.{fourWord, lmsOf}
+use Rattle.header.specs.Predictor.{lmsOf}
 use Rattle.header.specs.declared.frame.FrameHeader.{FrameHeader}
 use Rattle.state.specs.States.{allShort}
 use Rattle.search.specs.Search.{strided}
+use Rattle.body.specs.Channel.{lmsBefore, sliceWord, sumAt}
+use Rattle.body.specs.Laid.{laid, lmsBytes}
 use Rattle.encoder.specs.Encoder.{View, goodEncoder}
-use Rattle.encoder.specs.Channel.{lmsBefore, sliceWord, sumAt}
 
 -- ---- the samples, n of each of c channels, interleaved
 
@@ -34,15 +34,6 @@ channelOf v samples j = strided (perChannel v samples) samples j (v .channels)
 -- the size field is the frame's length
 abbrev pub headerFor : View → ℕ → FrameHeader
 headerFor v n = record { channels = v .channels; rate = v .rate; samples = n; size = frameLength (v .channels) n }
-
--- f 0, f 1, .. below n, one after another
-unfoldable pub laid : ℕ → (ℕ → List ℕ) → List ℕ
-laid zero f = []
-laid (suc n) f = laid n f ++ f n
-
--- four history and four weight numbers
-abbrev pub lmsBytes : QoaLms → List ℕ
-lmsBytes lms = bytesOf 8 (fourWord (lms .history)) ++ bytesOf 8 (fourWord (lms .weights))
 
 abbrev pub stateBytes : View → List ℕ
 stateBytes v = laid (v .channels) (λ j. lmsBytes (lmsOf (v .lms) j))

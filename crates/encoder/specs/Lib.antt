@@ -1,6 +1,5 @@
 -- What the contracts cite.
 pub mod Encoder
-pub mod Channel
 pub mod Frame
 pub mod Head
 pub mod Calls

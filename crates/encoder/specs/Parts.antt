@@ -1,19 +1,15 @@
 -- What the parts of the code ask and answer. Assumes nothing.
-use Prim.Native.Nat.{ℕ, _+_, _*_, _≤_, _<_}
+use Prim.Native.Nat.{ℕ, _*_, _≤_, _<_}
 use mathlib.Core.Path.{_≡_}
-use mathlib.Core.List.{List, _++_}
+use mathlib.Core.List.{List}
 use mathlib.Core.Option.{Option, none, some}
 use lib.IntN.{ℤ}
-use lib.ListN.{length, take, drop}
+use lib.ListN.{length}
 use Rattle.header.specs.Format.{maxChannels, mostRate}
 use Rattle.encoder.specs.Encoder.{View}
 use Rattle.encoder.specs.Frame.{firstWide, perChannel}
 use Rattle.encoder.specs.declared.Wide.{Wide}
 use Rattle.encoder.specs.declared.Wide.the-variants.{Nowhere, At}
-
--- bytes laid over what was there, from a place on
-unfoldable pub overlaid : List ℕ → ℕ → List ℕ → List ℕ
-overlaid out p bytes = take p out ++ (bytes ++ drop (p + length bytes) out)
 
 abbrev pub toldWide : Wide → Option ℕ
 toldWide Nowhere = none

@@ -5,7 +5,6 @@ use lms::QoaLms;
 
 pub mod create;
 pub mod frame;
-pub mod group;
 pub mod head;
 pub mod rules;
 

@@ -17,8 +17,8 @@ use Rattle.header.specs.Header.{headerAt, headerRules, sizeSlices}
 use Rattle.header.specs.Predictor.{lmsAt}
 use Rattle.header.specs.Grammar.{tailOk}
 use Rattle.slice.specs.Slice.{sampleAt, stateAfter}
-use Rattle.slice.specs.Channel.{channelAt, runAfter}
-use Rattle.slice.specs.Groups.{groupsAt}
+use Rattle.groups.specs.Channel.{channelAt, runAfter}
+use Rattle.groups.specs.Groups.{groupsAt}
 use Rattle.format.specs.Frame.{frameSamples, frameStates}
 use Rattle.format.specs.Walk.{walkBy, walkOf}
 use Rattle.format.specs.Reader.{audioIn, audioOf, bodyFor, cutOf, decode, frameRules, otherRules}

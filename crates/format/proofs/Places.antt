@@ -19,10 +19,10 @@ use Rattle.header.specs.Predictor.{lmsAt, lmsOf, noLms}
 use Rattle.header.specs.declared.frame.FrameHeader.{FrameHeader}
 use Rattle.header.proofs.Headers.{header-drop}
 use Rattle.word.proofs.Fields.{AreBytes}
-use Rattle.header.proofs.Predictors.{lms-drop, lms-take, read-within}
-use Rattle.slice.specs.Channel.{channelAt}
-use Rattle.slice.specs.Groups.{AllWithin, groupsAt, sliceWord}
-use Rattle.slice.proofs.Parts.{samples-drop, samples-take}
+use Rattle.predictors.proofs.Predictors.{lms-drop, lms-take, read-within}
+use Rattle.groups.specs.Channel.{channelAt}
+use Rattle.groups.specs.Groups.{AllWithin, groupsAt, sliceWord}
+use Rattle.groups.proofs.Parts.{samples-drop, samples-take}
 use Rattle.format.specs.Frame.{countOf, frameSamples, frameStates}
 use Rattle.format.specs.Walk.{frameAt}
 use Rattle.format.proofs.Frames.{header-at}

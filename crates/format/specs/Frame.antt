@@ -8,7 +8,7 @@ use Rattle.header.specs.Format.{stateEnd}
 use Rattle.header.specs.Header.{headerAt}
 use Rattle.header.specs.Predictor.{lmsAt}
 use Rattle.header.specs.declared.frame.FrameHeader.{FrameHeader}
-use Rattle.slice.specs.Groups.{groupsAt}
+use Rattle.groups.specs.Groups.{groupsAt}
 
 -- the predictor that the frame states for each channel
 unfoldable pub frameStates : List ℕ → List QoaLms

@@ -2,6 +2,5 @@
 pub mod Told
 pub mod Headers
 pub mod FileHeaders
-pub mod Predictors
 pub mod Parts
 pub mod Lasting

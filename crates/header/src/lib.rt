@@ -1,9 +1,8 @@
-// The structure of a QOA file: its headers, a channel's predictor state, the frame part, the facts record.
+// The structure of a QOA file: its headers, the frame part, the facts record.
 pub mod facts;
 pub mod file;
 pub mod frame;
 pub mod part;
-pub mod predictor;
 pub mod refusal;
 
 pub use facts::Facts;
@@ -31,9 +30,6 @@ pub use frame::state_end;
 pub use part::PartAnswer;
 pub use part::frame_part;
 pub use part::part_length;
-pub use predictor::read_lms;
-pub use predictor::read_states;
-pub use predictor::write_lms;
 pub use refusal::Checked;
 pub use refusal::Refusal;
 pub use refusal::number;

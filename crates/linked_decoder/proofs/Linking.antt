@@ -22,7 +22,7 @@ use Rattle.state.specs.View.{View, view}
 use Rattle.state.specs.declared.QoaDecoder.{QoaDecoder}
 use Rattle.state.proofs.Belows.{and-left, fails}
 use Rattle.state.proofs.GoodStates.{good-facts}
-use Rattle.decoder.specs.Left.{Leaves}
+use Rattle.into.specs.Left.{Leaves}
 use Rattle.encoder.specs.Calls.{onto}
 use Rattle.block.specs.DecoderBlock.{byteIn, decoderBytes, decoderIn, decoderSize, frameIn, isDecoder}
 use Rattle.block.specs.Parts.{readableDecoder}

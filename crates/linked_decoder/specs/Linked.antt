@@ -14,8 +14,8 @@ use Rattle.state.specs.Facts.{factsFor}
 use Rattle.state.specs.Opening.{openRules, openedAt}
 use Rattle.state.specs.States.{goodState}
 use Rattle.state.specs.View.{View}
-use Rattle.decoder.specs.Frames.{nextAfter, nextFound, nextRules}
-use Rattle.decoder.specs.Into.{comingAt, intoAfter, intoCount, intoRules, storedUnless}
+use Rattle.frames.specs.Frames.{nextAfter, nextFound, nextRules}
+use Rattle.into.specs.Into.{comingAt, intoAfter, intoCount, intoRules, storedUnless}
 use Rattle.decoder.specs.Items.{itemAfter, itemOf, itemRules}
 use Rattle.encoder.specs.Calls.{ifSome, onto}
 use Rattle.block.specs.DecoderBlock.{decoderBytes, decoderIn, decoderSize, isDecoder}

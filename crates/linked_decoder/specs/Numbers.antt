@@ -2,7 +2,7 @@
 use Prim.Native.Nat.{ℕ, _+_, _*_, _^_}
 use Rattle.wrap.specs.Wrap.{low16}
 use Rattle.state.specs.declared.FrameFacts.{FrameFacts}
-use Rattle.decoder.specs.Frames.{Found, a-frame, no-frame}
+use Rattle.frames.specs.Frames.{Found, a-frame, no-frame}
 use Rattle.decoder.specs.Items.{Item, a-header, a-sample, no-item}
 
 -- channels * 2^48 + rate * 2^16 + samples per channel

@@ -3,22 +3,15 @@
 ghost use mathlib.Core.Path.{_≡_};
 ghost use Prim.Native.Nat.{_≤_, _^_};
 ghost use lib.Dec.{ltb};
-ghost use lib.IntN.{ℤ, pos, negsuc, natAbs, _+ℤ_, _*ℤ_};
-ghost use lib.Signed.{ltZ, mag};
+ghost use lib.IntN.{ℤ, natAbs, _+ℤ_, _*ℤ_};
+ghost use lib.Signed.{mag};
 ghost use Rattle.wrap.specs.Wrap.{low32, wrap32};
-ghost use Rattle.lms.specs.Predictor.{clamp16, costOf, dot, newLms, olderDot, predicted, penaltyOf, pick, stepped, updated, WeightsWithin};
-ghost use Rattle.lms.specs.Loop.{aheadOf, gained, gainsOf, movedBy, sideOf, SmallGains};
+ghost use Rattle.lms.specs.Predictor.{clamp16, costOf, dot, newLms, olderDot, predicted, penaltyOf, stepped, updated, WeightsWithin};
 
 // Four numbers of history, the newest last, and a weight for each.
 pub struct QoaLms {
     pub history: [i32; 4],
     pub weights: [i32; 4],
-}
-
-// The predictor of a decoding loop, with the sum of its three older products, which is known before the newest sample is.
-pub struct Ahead {
-    pub lms: QoaLms,
-    pub older: u32,
 }
 
 // The predictor of a new encoder.
@@ -32,7 +25,7 @@ pub fn new_lms() -> QoaLms
 }
 
 // The low bits of the sum of the first three products.
-fn older_dot(a: [i32; 4], b: [i32; 4]) -> u32
+pub fn older_dot(a: [i32; 4], b: [i32; 4]) -> u32
     ensures { λ r. ⌜ r ≡ low32 (olderDot a b) ⌝ }
 {
     let p0 = wrap::wrapping_mul(a[0], b[0]);
@@ -42,7 +35,7 @@ fn older_dot(a: [i32; 4], b: [i32; 4]) -> u32
 }
 
 // The sum with one product more, wrapped. The newest product comes last, since the others are known before it.
-fn add_newest(older: u32, a: i32, b: i32) -> i32
+pub fn add_newest(older: u32, a: i32, b: i32) -> i32
     ensures { λ r. ⌜ ((z : ℤ) → older ≡ low32 z → r ≡ wrap32 (z +ℤ a *ℤ b)) ⌝ }
 {
     let newest = wrap::wrapping_mul(a, b);
@@ -143,108 +136,9 @@ pub fn update(lms: QoaLms, sample: i16, residual: i32) -> QoaLms
     moved(lms, sample as i32, residual)
 }
 
-// What a weight gains by a table value: a sixteenth of it, and the negative of that for a history below zero.
-pub fn gains(residual: i32) -> [i32; 2]
-    ensures { λ r. ⌜ r ≡ gainsOf residual ⌝ }
-{
-    let step = residual >> 4;
-    [step, 0 - step]
-}
-
-// Which of the two is a history number's.
-fn side(history: i32) -> usize
-    ensures { λ r. ⌜ r ≡ sideOf history ⌝ }
-{
-    if history < 0 { 1 } else { 0 }
-}
-
-// A weight after its gain: what `step` makes of it, by a number from memory in place of a test.
-fn gain(weight: i32, history: i32, gains: &[i32; 2]) -> i32
-    requires { ⌜ (natAbs weight ≤ 2 ^ 30) × SmallGains (now gains) ⌝ }
-    ensures { λ r. ⌜ r ≡ gained weight history (now (gains .entry)) ⌝ }
-{
-    let place = side(history);
-    weight + gains[place]
-}
-
-// What `moved` makes, by the gains of the table value.
-fn moved_by(lms: QoaLms, sample: i32, gains: &[i32; 2]) -> QoaLms
-    requires { ⌜ (WeightsWithin (2 ^ 30) lms) × SmallGains (now gains) ⌝ }
-    ensures { λ r. ⌜ r ≡ movedBy lms sample (now (gains .entry)) ⌝ }
-{
-    let history = lms.history;
-    let weights = lms.weights;
-    QoaLms {
-        history: [history[1], history[2], history[3], sample],
-        weights: [
-            gain(weights[0], history[0], gains),
-            gain(weights[1], history[1], gains),
-            gain(weights[2], history[2], gains),
-            gain(weights[3], history[3], gains),
-        ],
-    }
-}
-
-// The predictor, made ready for a loop.
-pub fn ready(lms: QoaLms) -> Ahead
-    ensures { λ r. ⌜ r ≡ aheadOf lms ⌝ }
-{
-    let history = lms.history;
-    let weights = lms.weights;
-    Ahead {
-        lms,
-        older: older_dot(weights, history),
-    }
-}
-
-// What it expects next.
-fn expect(a: Ahead) -> i32
-    requires { ⌜ a ≡ aheadOf (a .lms) ⌝ }
-    ensures { λ r. ⌜ r ≡ predicted (a .lms) ⌝ }
-{
-    let lms = a.lms;
-    let history = lms.history;
-    let weights = lms.weights;
-    add_newest(a.older, weights[3], history[3]) >> 13
-}
-
 // Whether a number is one of 16 bits.
 pub fn is_short(x: i32) -> bool
     ensures { λ r. ⌜ r ≡ ltb (mag x) 32768 ⌝ }
 {
     if x < -32768 { false } else { x <= 32767 }
-}
-
-// The end of the 16-bit range that is on a number's side of zero.
-fn end_of(x: i32) -> i32
-    ensures { λ r. ⌜ r ≡ pick (ltZ x (pos 0)) (negsuc 32767) (pos 32767) ⌝ }
-{
-    if x < 0 { -32768 } else { 32767 }
-}
-
-// The prediction plus a table value, not clamped.
-pub fn sum_ahead(a: Ahead, residual: i32) -> i32
-    requires { ⌜ (a ≡ aheadOf (a .lms)) × (natAbs residual ≤ 14336) ⌝ }
-    ensures { λ r. ⌜ r ≡ predicted (a .lms) +ℤ residual ⌝ }
-{
-    expect(a) + residual
-}
-
-// The same, clamped to 16 bits. A sum that is too far out has the prediction's sign, which is known before the sum.
-pub fn clamped_ahead(a: Ahead, residual: i32) -> i32
-    requires { ⌜ (a ≡ aheadOf (a .lms)) × (natAbs residual ≤ 14336) ⌝ }
-    ensures { λ r. ⌜ r ≡ clamp16 (predicted (a .lms) +ℤ residual) ⌝ }
-{
-    let sum = sum_ahead(a, residual);
-    let end = end_of(expect(a));
-    if is_short(sum) { sum } else { end }
-}
-
-// The predictor of a loop after a sample whose table value has these gains.
-pub fn advance(a: Ahead, sample: i32, gains: &[i32; 2]) -> Ahead
-    requires { ⌜ (WeightsWithin (2 ^ 30) (a .lms)) × SmallGains (now gains) ⌝ }
-    ensures { λ r. ⌜ r ≡ aheadOf (movedBy (a .lms) sample (now (gains .entry))) ⌝ }
-{
-    let lms = a.lms;
-    ready(moved_by(lms, sample, gains))
 }

@@ -15,13 +15,14 @@ use Rattle.encoder.specs.Encoder.{View, view}
 use Rattle.encoder.specs.Frame.{afterFrame, firstWide, frameBytes, perChannel}
 use Rattle.oneshot.specs.OneShot.{Stop, before, bytesBefore, chunk, fileBytes, fileNeed, framesIn, framesOf, needOf, stopIn}
 use Rattle.encoder.specs.Calls.{onto}
-use Rattle.encoder.specs.Parts.{FrameFits, overlaid}
+use Rattle.body.specs.Laid.{overlaid}
+use Rattle.encoder.specs.Parts.{FrameFits}
 use Rattle.oneshot.specs.Parts.{framePlace}
 use Rattle.encoder.specs.declared.QoaEncoder.{QoaEncoder}
 use Rattle.encoder.proofs.Frames.{after-good, length-frame, wide-view}
 use Rattle.encoder.proofs.GoodEncoders.{Good}
-use Rattle.encoder.proofs.Heads.{length-head}
-use Rattle.encoder.proofs.Overlays.{over-start, over-then}
+use Rattle.encoder.proofs.Heads.{length-head, over-start}
+use Rattle.body.proofs.Overlays.{over-then}
 
 -- ---- the samples of a frame
 

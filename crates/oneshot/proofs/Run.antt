@@ -4,8 +4,9 @@ use mathlib.Core.List.{[], _∷_}
 use lib.IntN.{pos}
 use Rattle.encoder.specs.Calls.{wrote}
 use Rattle.encoder.specs.Encoder.{createRules, goodEncoder, newView}
-use Rattle.encoder.specs.Frame.{afterFrame, firstWide, frameBytes, laid}
-use Rattle.encoder.specs.Channel.{lmsBefore, slicePart, sliceWord}
+use Rattle.body.specs.Laid.{laid}
+use Rattle.encoder.specs.Frame.{afterFrame, firstWide, frameBytes}
+use Rattle.body.specs.Channel.{lmsBefore, slicePart, sliceWord}
 use Rattle.encoder.specs.Head.{headBytes}
 use Rattle.word.specs.Bytes.{byteOf, bytesOf}
 use Rattle.word.specs.Word.{filled}

@@ -8,8 +8,8 @@ use header::Refusal;
 use libc::STDERR_FILENO;
 use libc::STDIN_FILENO;
 use libc::STDOUT_FILENO;
-use whole::survey::First;
-use whole::survey::Kind;
+use survey::First;
+use survey::Kind;
 ghost use Prim.Native.Nat.{_≤_};
 ghost use lib.ListN.{length};
 
@@ -160,7 +160,7 @@ fn finish(run: Run, left: usize, buffer: &mut [u8]) -> Run {
     if 7 < left {
         return stopped();
     }
-    match whole::survey::check_tail(left) {
+    match survey::check_tail(left) {
         Checked::Passed => stopped(),
         Checked::Refused(refusal) => refuse(refusal, run.read, buffer),
     }
@@ -325,7 +325,7 @@ fn frame(run: Run, h: FrameHeader, buffer: &mut [u8], block: &mut [i16], bytes: 
     let part = 8 + got.count;
     let read = run.read + part as u64;
     let first = first_for(run, h);
-    match whole::survey::check_frame(h, left_for(run, h, part), Kind::Like(first)) {
+    match survey::check_frame(h, left_for(run, h, part), Kind::Like(first)) {
         Checked::Refused(refusal) => refuse(refusal, read, buffer),
         Checked::Passed => body(run, h, part, buffer, block, bytes),
     }

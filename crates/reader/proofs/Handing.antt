@@ -15,17 +15,17 @@ use Rattle.header.specs.Refusals.{numberOf}
 use Rattle.header.specs.declared.refusal.Refusal.{Refusal}
 use Rattle.state.specs.View.{View, view}
 use Rattle.state.specs.declared.QoaDecoder.{QoaDecoder}
-use Rattle.decoder.specs.Left.{Leaves}
-use Rattle.decoder.specs.Into.{IntoDone, intoAfter, intoCount, intoRules, toldInto}
-use Rattle.decoder.specs.Frames.{Found, NextDone, a-frame, nextAfter, nextFound, nextRules, no-frame, toldFrame}
+use Rattle.into.specs.Left.{Leaves}
+use Rattle.into.specs.Into.{IntoDone, intoAfter, intoCount, intoRules, toldInto}
+use Rattle.frames.specs.Frames.{Found, NextDone, a-frame, nextAfter, nextFound, nextRules, no-frame, toldFrame}
 use Rattle.decoder.specs.Items.{Item, ItemDone, a-header, a-sample, itemAfter, itemOf, itemRules, no-item, toldItem}
-use Rattle.decoder.specs.declared.DecodedInto.{DecodedInto}
-use Rattle.decoder.specs.declared.NextFrame.{NextFrame}
+use Rattle.into.specs.declared.DecodedInto.{DecodedInto}
+use Rattle.frames.specs.declared.NextFrame.{NextFrame}
 use Rattle.decoder.specs.declared.NextItem.{NextItem}
-use Rattle.decoder.specs.declared.IntoAnswer as I
-use Rattle.decoder.specs.declared.FrameAnswer as F
+use Rattle.into.specs.declared.IntoAnswer as I
+use Rattle.frames.specs.declared.FrameAnswer as F
 use Rattle.decoder.specs.declared.QoaItem as Q
-use Rattle.decoder.proofs.FrameAnswer as F′
+use Rattle.frames.proofs.FrameAnswer as F′
 use Rattle.decoder.proofs.QoaItem as Q′
 use Rattle.reader.specs.Read.{FrameRead, Handed, IntoRead, ItemRead, placed, there}
 

@@ -16,16 +16,18 @@ use Rattle.state.specs.Opening.{OpenLeaves, openRules, toldOpen}
 use Rattle.state.specs.View.{View, view}
 use Rattle.state.specs.declared.QoaDecoder.{QoaDecoder}
 use Rattle.state.proofs.Settled.{open-settled}
-use Rattle.decoder.specs.Into.{intoAfter, intoCount, intoRules, toldInto}
-use Rattle.decoder.specs.Frames.{nextAfter, nextFound, nextRules, toldFrame}
+use Rattle.into.specs.Into.{intoAfter, intoCount, intoRules, toldInto}
+use Rattle.frames.specs.Frames.{nextAfter, nextFound, nextRules, toldFrame}
 use Rattle.decoder.specs.Items.{itemAfter, itemOf, itemRules, toldItem}
-use Rattle.decoder.specs.declared.DecodedInto.{DecodedInto}
-use Rattle.decoder.specs.declared.NextFrame.{NextFrame}
+use Rattle.into.specs.declared.DecodedInto.{DecodedInto}
+use Rattle.frames.specs.declared.NextFrame.{NextFrame}
 use Rattle.decoder.specs.declared.NextItem.{NextItem}
-use Rattle.decoder.specs.declared.IntoAnswer as I
-use Rattle.decoder.specs.declared.FrameAnswer as F
+use Rattle.into.specs.declared.IntoAnswer as I
+use Rattle.frames.specs.declared.FrameAnswer as F
 use Rattle.decoder.specs.declared.QoaItem as Q
-use Rattle.decoder.proofs.Settled.{told-frame, told-into, told-item}
+use Rattle.into.proofs.Settled.{told-into}
+use Rattle.frames.proofs.Settled.{told-frame}
+use Rattle.decoder.proofs.Settled.{told-item}
 use Rattle.reader.specs.Read.{FrameRead, Handed, IntoRead, ItemRead, there}
 use Rattle.reader.specs.declared.FramePart.{FramePart}
 use Rattle.reader.specs.declared.OpenedReader.{OpenedReader}

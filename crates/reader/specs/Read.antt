@@ -9,11 +9,11 @@ use Rattle.word.specs.Rules.{good, after, firstOf}
 use Rattle.word.specs.Written.{written}
 use Rattle.state.specs.View.{View, view}
 use Rattle.state.specs.declared.QoaDecoder.{QoaDecoder}
-use Rattle.decoder.specs.Into.{comingAt, intoAfter, intoCount, intoRules, storedUnless, toldInto}
-use Rattle.decoder.specs.Frames.{nextAfter, nextFound, nextRules, toldFrame}
+use Rattle.into.specs.Into.{comingAt, intoAfter, intoCount, intoRules, storedUnless, toldInto}
+use Rattle.frames.specs.Frames.{nextAfter, nextFound, nextRules, toldFrame}
 use Rattle.decoder.specs.Items.{itemAfter, itemOf, itemRules, toldItem}
-use Rattle.decoder.specs.declared.DecodedInto.{DecodedInto}
-use Rattle.decoder.specs.declared.NextFrame.{NextFrame}
+use Rattle.into.specs.declared.DecodedInto.{DecodedInto}
+use Rattle.frames.specs.declared.NextFrame.{NextFrame}
 use Rattle.decoder.specs.declared.NextItem.{NextItem}
 
 -- the same state, with its place set

@@ -10,9 +10,9 @@ use lib.Signed.{mag}
 use mir.Syntax.{w32}
 use Rattle.wrap.proofs.Integers.{reread, returned}
 use Rattle.word.specs.Word.{codeOf, scaleOf}
-use Rattle.lms.specs.Loop.{gainsOf, SmallGains}
+use Rattle.ahead.specs.Loop.{gainsOf, SmallGains}
 use Rattle.lms.specs.Predictor.{at}
-use Rattle.lms.proofs.GainLaws.{gains-small}
+use Rattle.ahead.proofs.GainLaws.{gains-small}
 use Rattle.scale.specs.Tables.{rowOf}
 use Rattle.slice.specs.Slice.{residualAt, GainsOf}
 use Rattle.slice.proofs.Growth.{residual-small}

@@ -6,9 +6,9 @@ use native.Mathlib.Numerals.{add-one}
 use lib.IntN.{ℤ, _+ℤ_}
 use lib.ListN.{set}
 use Rattle.word.specs.Written.{written}
-use Rattle.lms.specs.Loop.{aheadOf}
+use Rattle.ahead.specs.Loop.{aheadOf}
 use Rattle.lms.specs.Predictor.{clamp16, predicted, updated}
-use Rattle.lms.specs.declared.Ahead.{Ahead}
+use Rattle.ahead.specs.declared.Ahead.{Ahead}
 use Rattle.lms.specs.declared.QoaLms.{QoaLms}
 use Rattle.trial.specs.Trial.{heard, sampleOf}
 use Rattle.slice.specs.Slice.{residualAt, sampleAt, stateAfter, HeardTo}

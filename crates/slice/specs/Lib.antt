@@ -1,4 +1,2 @@
 -- What the contracts cite.
 pub mod Slice
-pub mod Channel
-pub mod Groups

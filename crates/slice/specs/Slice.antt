@@ -6,7 +6,7 @@ use lib.IntN.{ℤ}
 use lib.ListN.{getD}
 use Rattle.word.specs.Word.{scaleOf, codeOf}
 use Rattle.word.specs.Written.{written}
-use Rattle.lms.specs.Loop.{gainsOf}
+use Rattle.ahead.specs.Loop.{gainsOf}
 use Rattle.lms.specs.Predictor.{at}
 use Rattle.lms.specs.declared.QoaLms.{QoaLms}
 use Rattle.scale.specs.Tables.{rowOf}

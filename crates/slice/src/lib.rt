@@ -1,24 +1,19 @@
-// Slices and slice groups, decoded into lent samples. `tab` is the dequantising table, which a caller holds for a whole frame.
-use header::frame::QOA_MAX_CHANNELS;
+// A slice, decoded into lent samples. `tab` is the dequantising table, which a caller holds for a whole frame.
 use header::frame::QOA_SLICE_LEN;
 use lms::QoaLms;
 use trial::Heard;
 ghost use mathlib.Core.Path.{_≡_};
-ghost use Prim.Native.Nat.{ℕ, _+_, _*_, _^_, _≤_, _<_, min};
+ghost use Prim.Native.Nat.{ℕ, _+_, _*_, _^_, _≤_, _<_};
 ghost use mathlib.Core.List.{List};
 ghost use lib.IntN.{ℤ};
 ghost use lib.ListN.{length};
-ghost use Rattle.word.specs.Bytes.{be64};
 ghost use Rattle.word.specs.Word.{codeOf, scaleOf};
 ghost use Rattle.word.specs.Written.{written};
 ghost use Rattle.lms.specs.Predictor.{at, WeightsWithin};
 ghost use Rattle.lms.specs.declared.QoaLms.{QoaLms};
 ghost use Rattle.scale.specs.Tables.{dequantTab, rowOf};
 ghost use Rattle.trial.specs.Trial.{heard};
-ghost use Rattle.header.specs.Format.{maxChannels, slicesOf};
 ghost use Rattle.slice.specs.Slice.{residualAt, sampleAt, stateAfter, GainsOf, HeardTo};
-ghost use Rattle.slice.specs.Channel.{channelAt, runAfter};
-ghost use Rattle.slice.specs.Groups.{groupsAt, groupsStates, AllWithin};
 
 // The table value of the i-th code of a word, by a row of the table.
 fn value_at(row: &[i32; 8], word: u64, i: usize) -> i32
@@ -43,14 +38,14 @@ fn gains_of(row: [i32; 8]) -> [[i32; 2]; 8]
     ensures { λ r. ⌜ GainsOf r row ⌝ }
 {
     [
-        lms::gains(row[0]),
-        lms::gains(row[1]),
-        lms::gains(row[2]),
-        lms::gains(row[3]),
-        lms::gains(row[4]),
-        lms::gains(row[5]),
-        lms::gains(row[6]),
-        lms::gains(row[7]),
+        ahead::gains(row[0]),
+        ahead::gains(row[1]),
+        ahead::gains(row[2]),
+        ahead::gains(row[3]),
+        ahead::gains(row[4]),
+        ahead::gains(row[5]),
+        ahead::gains(row[6]),
+        ahead::gains(row[7]),
     ]
 }
 
@@ -88,17 +83,17 @@ fn hear_quiet(
     ensures heard { λ r. ⌜ ((s : QoaLms) (o : List ℤ) → HeardTo word s o start stride from lms (now (out .entry)) → HeardTo word s o start stride (r .done) (r .lms) (now (out .exit))) ⌝ }
 {
     let rest = drop_codes(word, from);
-    let mut state = lms::ready(lms);
+    let mut state = ahead::ready(lms);
     for i in from..to {
         let code = word::code(rest, i - from);
         let value = row[code];
-        let sum = lms::sum_ahead(state, value);
+        let sum = ahead::sum_ahead(state, value);
         if !lms::is_short(sum) {
             let left = state.lms;
             return Part { done: i, lms: left };
         }
         out[start + i * stride] = sum as i16;
-        state = lms::advance(state, sum, &gains[code]);
+        state = ahead::advance(state, sum, &gains[code]);
     }
     let after = state.lms;
     Part {
@@ -164,14 +159,14 @@ fn hear_loud(
     requires room { ⌜ ((i : ℕ) → i < count → start + i * stride < length (now out)) ⌝ }
     ensures { λ r. ⌜ ((s : QoaLms) (o : List ℤ) → HeardTo word s o start stride from lms (now (out .entry)) → HeardTo word s o start stride count r (now (out .exit))) ⌝ }
 {
-    let mut state = lms::ready(lms);
+    let mut state = ahead::ready(lms);
     let mut rest = drop_codes(word, from);
     for i in from..count {
         let code = word::code(rest, 0);
         let value = row[code];
-        let sample = lms::clamped_ahead(state, value);
+        let sample = ahead::clamped_ahead(state, value);
         out[start + i * stride] = sample as i16;
-        state = lms::advance(state, sample, &gains[code]);
+        state = ahead::advance(state, sample, &gains[code]);
         rest = drop_codes(rest, 1);
     }
     state.lms
@@ -256,89 +251,4 @@ pub fn decode_slice(
     let gains = gains_of(row);
     let state = hear_stored(&row, &gains, lms, word, out, start, stride, count);
     hear_rest(&row, state, word, count)
-}
-
-// The samples of a slice, of those that are left: twenty, or fewer in a short one.
-fn slice_len(left: usize) -> usize
-    ensures { λ r. ⌜ r ≡ min 20 left ⌝ }
-{
-    if left < QOA_SLICE_LEN {
-        left
-    } else {
-        QOA_SLICE_LEN
-    }
-}
-
-// The slices of one channel, the first of which is at the place `at`.
-pub fn decode_channel(
-    tab: &[[i32; 8]; 16],
-    lms: QoaLms,
-    bytes: &[u8],
-    at: usize,
-    channels: usize,
-    samples: usize,
-    out: &mut [i16],
-    start: usize,
-) -> QoaLms
-    requires table { ⌜ now tab ≡ dequantTab ⌝ }
-    requires small { ⌜ (WeightsWithin (2 ^ 28) lms) × (samples ≤ 65535) ⌝ }
-    requires whole { ⌜ ((g : ℕ) → g < slicesOf samples → at + 8 * (g * channels) + 8 ≤ length (now bytes)) ⌝ }
-    requires room { ⌜ ((k : ℕ) → k < samples → start + k * channels < length (now out)) ⌝ }
-    ensures state { λ r. ⌜ r ≡ runAfter (λ g. be64 (now (bytes .entry)) (at + 8 * (g * channels))) lms (slicesOf samples) ⌝ }
-    ensures samples { λ r. ⌜ now (out .exit) ≡ written (channelAt (λ g. be64 (now (bytes .entry)) (at + 8 * (g * channels))) lms) (now (out .entry)) start channels samples ⌝ }
-{
-    let slices = (samples + QOA_SLICE_LEN - 1) / QOA_SLICE_LEN;
-    let mut state = lms;
-    for g in 0..slices {
-        let word = word::read_u64(bytes, at + 8 * (g * channels));
-        let done = QOA_SLICE_LEN * g;
-        let count = slice_len(samples - done);
-        state = decode_slice(
-            tab,
-            state,
-            word,
-            out,
-            start + done * channels,
-            channels,
-            count,
-        );
-    }
-    state
-}
-
-// The slice groups of all channels, that start at the place `at`: `samples` samples of each channel, interleaved from `start` on.
-pub fn decode_groups(
-    tab: &[[i32; 8]; 16],
-    states: [QoaLms; QOA_MAX_CHANNELS],
-    bytes: &[u8],
-    at: usize,
-    channels: usize,
-    samples: usize,
-    out: &mut [i16],
-    start: usize,
-) -> [QoaLms; QOA_MAX_CHANNELS]
-    requires table { ⌜ now tab ≡ dequantTab ⌝ }
-    requires small { ⌜ (channels ≤ maxChannels) × (samples ≤ 65535) ⌝ }
-    requires whole { ⌜ at + 8 * (channels * slicesOf samples) ≤ length (now bytes) ⌝ }
-    requires room { ⌜ start + samples * channels ≤ length (now out) ⌝ }
-    requires weights { ⌜ AllWithin (2 ^ 28) channels states ⌝ }
-    ensures states { λ r. ⌜ r ≡ groupsStates (now (bytes .entry)) at channels states (slicesOf samples) ⌝ }
-    ensures samples { λ r. ⌜ now (out .exit) ≡ written (groupsAt (now (bytes .entry)) at channels states) (now (out .entry)) start 1 (samples * channels) ⌝ }
-{
-    let mut next = states;
-    for j in 0..channels {
-        let lms = next[j];
-        let after = decode_channel(
-            tab,
-            lms,
-            bytes,
-            at + 8 * j,
-            channels,
-            samples,
-            out,
-            start + j,
-        );
-        next[j] = after;
-    }
-    next
 }

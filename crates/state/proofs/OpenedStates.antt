@@ -23,7 +23,7 @@ use Rattle.header.specs.Part.{cutRules}
 use Rattle.header.specs.Predictor.{lmsAt, lmsOf, noLms}
 use Rattle.word.proofs.Fields.{AreBytes}
 use Rattle.header.proofs.Headers.{header-small, passes}
-use Rattle.header.proofs.Predictors.{read-fits, read-within}
+use Rattle.predictors.proofs.Predictors.{read-fits, read-within}
 use Rattle.state.specs.States.{goodState, weightBound}
 use Rattle.state.specs.Opening.{firstRules, openRules, openedAt, openedFixed, openedStream}
 use Rattle.state.proofs.Bounds.{bound-least}

@@ -102,7 +102,7 @@ fn fixed_state(bytes: &[u8], total: u32, h: FrameHeader) -> QoaDecoder
     let states = zero.lms;
     let pending = zero.pending;
     let channels = h.channels as usize;
-    let lms = header::read_states(bytes, 2 * QOA_HEADER_SIZE, channels, states);
+    let lms = predictors::read_states(bytes, 2 * QOA_HEADER_SIZE, channels, states);
     QoaDecoder {
         mode: ProcessingMode::FixedSamples {
             samples: total,

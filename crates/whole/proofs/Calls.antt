@@ -21,7 +21,7 @@ use Rattle.format.proofs.Decoded.{holds}
 use Rattle.format.proofs.Frames.{tail-short}
 use Rattle.format.proofs.Streamed.{streamed-is}
 use Rattle.whole.specs.Told.{countIn, summaryIn, summaryOf}
-use Rattle.whole.specs.Survey.{fitAfter, fits}
+use Rattle.survey.specs.Survey.{fitAfter, fits}
 use Rattle.whole.specs.Held.{HasRoom, held}
 use Rattle.whole.specs.declared.answer.Summary.{Summary}
 use Rattle.whole.proofs.Decoding.{joined-held}

@@ -25,9 +25,9 @@ use Rattle.format.proofs.Places.{header-here}
 use Rattle.format.proofs.Walks.{walks}
 use Rattle.whole.specs.Told.{kept}
 use Rattle.whole.specs.Held.{HasRoom, held, heldFrames, keptAt, shortTail}
-use Rattle.whole.specs.declared.survey.Kind.the-variants.{Any}
-use Rattle.whole.proofs.FrameKinds.{passed}
-use Rattle.whole.proofs.Walking.{after-here, walk-ended, walk-on, walk-refused}
+use Rattle.survey.specs.declared.Kind.the-variants.{Any}
+use Rattle.survey.proofs.FrameKinds.{passed}
+use Rattle.survey.proofs.Walking.{after-here, walk-ended, walk-on, walk-refused}
 
 -- ---- whole good frames are held
 

@@ -1,6 +1,4 @@
 -- Laws for the crates above.
-pub mod Walking
-pub mod FrameKinds
 pub mod Surveying
 pub mod Decoding
 pub mod Calls

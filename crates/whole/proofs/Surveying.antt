@@ -26,9 +26,9 @@ use Rattle.format.proofs.Walks.{walk-step, walked}
 use Rattle.format.proofs.Needs.{frames-need, need-small}
 use Rattle.format.proofs.Places.{header-here}
 use Rattle.whole.specs.Told.{summaryIn}
-use Rattle.whole.specs.Survey.{audioAfter, fitAfter, fits}
+use Rattle.survey.specs.Survey.{audioAfter, fitAfter, fits}
 use Rattle.whole.specs.declared.answer.Summary.{Summary}
-use Rattle.whole.proofs.Walking.{fits-good, walk-on}
+use Rattle.survey.proofs.Walking.{fits-good, walk-on}
 
 -- ---- before the frames
 

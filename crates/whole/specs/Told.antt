@@ -9,7 +9,6 @@ use Rattle.format.specs.Reader.{Audio}
 use Rattle.whole.specs.declared.answer.Summary.{Summary}
 use Rattle.whole.specs.declared.answer.DecodeAnswer as D
 use Rattle.whole.specs.declared.answer.NeedAnswer as N
-use Rattle.whole.specs.declared.answer.FramesAnswer as F
 
 -- a file's audio, its samples counted
 abbrev pub summaryOf : Audio → Summary
@@ -33,10 +32,6 @@ toldDecoded (D.the-variants.Refused r) = refused (numberOf r)
 abbrev pub toldNeed : N.NeedAnswer → Answer Summary
 toldNeed (N.the-variants.Need s) = good s
 toldNeed (N.the-variants.Refused r) = refused (numberOf r)
-
-abbrev pub toldFrames : F.FramesAnswer → Answer ℕ
-toldFrames (F.the-variants.Count n) = good n
-toldFrames (F.the-variants.Refused r) = refused (numberOf r)
 
 -- ---- the lent memory
 

@@ -1,5 +1,6 @@
 // What the calls answer.
 use header::refusal::Refusal;
+pub use survey::FramesAnswer;
 
 // A file's channels and rate, and how many samples it has over all channels.
 pub struct Summary {
@@ -17,11 +18,5 @@ pub enum DecodeAnswer {
 // What a whole file needs.
 pub enum NeedAnswer {
     Need(Summary),
-    Refused(Refusal),
-}
-
-// How many samples there are, over all frames.
-pub enum FramesAnswer {
-    Count(usize),
     Refused(Refusal),
 }

@@ -11,10 +11,10 @@ ghost use Rattle.format.specs.Frame.{frameSamples};
 ghost use Rattle.format.specs.Walk.{frameAt};
 ghost use Rattle.whole.specs.Told.{kept};
 ghost use Rattle.whole.specs.Held.{HasRoom, held};
-use crate::survey::sample_count;
 use header::frame::FrameHeader;
 use header::frame::QOA_HEADER_SIZE;
 use header::frame::QOA_MAX_CHANNELS;
+use survey::sample_count;
 
 // The frame at a place, its samples stored from `start` on.
 fn decode_frame(
@@ -33,9 +33,9 @@ fn decode_frame(
     let channels = h.channels as usize;
     let samples = h.samples as usize;
     let unread = [lms::new_lms(); QOA_MAX_CHANNELS];
-    let states = header::read_states(bytes, at + QOA_HEADER_SIZE, channels, unread);
+    let states = predictors::read_states(bytes, at + QOA_HEADER_SIZE, channels, unread);
     let place = at + header::state_end(channels);
-    slice::decode_groups(tab, states, bytes, place, channels, samples, out, start);
+    groups::decode_groups(tab, states, bytes, place, channels, samples, out, start);
 }
 
 // All frames from a place on.

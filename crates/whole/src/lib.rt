@@ -2,7 +2,6 @@
 // and then there is nothing left to refuse.
 pub mod answer;
 pub mod held;
-pub mod survey;
 
 pub use answer::DecodeAnswer;
 pub use answer::FramesAnswer;
@@ -14,8 +13,9 @@ ghost use lib.ListN.{length};
 ghost use Rattle.header.specs.Format.{mostBytes};
 ghost use Rattle.format.specs.Reader.{audioIn, decode};
 ghost use Rattle.format.specs.Streaming.{streamed};
-ghost use Rattle.whole.specs.Told.{countIn, heardIn, kept, summaryIn, toldDecoded, toldFrames, toldNeed};
-ghost use Rattle.whole.specs.Survey.{audioAfter};
+ghost use Rattle.survey.specs.Told.{toldFrames};
+ghost use Rattle.whole.specs.Told.{countIn, heardIn, kept, summaryIn, toldDecoded, toldNeed};
+ghost use Rattle.survey.specs.Survey.{audioAfter};
 use header::file::FileAnswer;
 use header::frame::QOA_HEADER_SIZE;
 use header::refusal::Refusal;

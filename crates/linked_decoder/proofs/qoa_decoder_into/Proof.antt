@@ -15,7 +15,7 @@ use Rattle.encoder.specs.Calls.{onto}
 use Rattle.block.specs.DecoderBlock.{decoderBytes, decoderIn}
 use Rattle.block.specs.Parts.{readableDecoder}
 use Rattle.block.proofs.Readable.{decoder-facts}
-use Rattle.decoder.specs.Into.{intoRules, toldInto}
+use Rattle.into.specs.Into.{intoRules, toldInto}
 use Rattle.linked_decoder.proofs.Linking.{accepted, count-small, leaves, linked-done, linked-refused, read-rules, unread}
 use Rattle.linked_decoder.proofs.qoa_decoder_into.Statement.{statement}
 use Rattle.linked_decoder.proofs.qoa_decoder_into.Tie as tie

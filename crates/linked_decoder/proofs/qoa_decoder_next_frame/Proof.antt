@@ -15,7 +15,7 @@ use Rattle.encoder.specs.Calls.{onto}
 use Rattle.block.specs.DecoderBlock.{decoderBytes, decoderIn}
 use Rattle.block.specs.Parts.{readableDecoder}
 use Rattle.block.proofs.Readable.{decoder-facts}
-use Rattle.decoder.specs.Frames.{Found, nextRules, toldFrame}
+use Rattle.frames.specs.Frames.{Found, nextRules, toldFrame}
 use Rattle.linked_decoder.specs.Numbers.{foundCode}
 use Rattle.linked_decoder.proofs.Linking.{accepted, leaves, linked-done, linked-refused, read-rules, unread}
 use Rattle.linked_decoder.proofs.qoa_decoder_next_frame.Statement.{statement}

@@ -45,8 +45,8 @@ use denote.Triple.Clauses.{ensured, lasts}
 use Rattle.state.specs.declared.QoaDecoder.{QoaDecoder}
 use Rattle.state.proofs.QoaDecoder as S
 use Rattle.state.proofs.QoaDecoder.Laws as S′
-use Rattle.decoder.proofs.DecodedInto as N
-use Rattle.decoder.proofs.DecodedInto.Laws as N′
+use Rattle.into.proofs.DecodedInto as N
+use Rattle.into.proofs.DecodedInto.Laws as N′
 use Rattle.reader.specs.Read.{IntoRead}
 use Rattle.reader.specs.declared.places.DecodedAt.{DecodedAt}
 use Rattle.reader.proofs.places.DecodedAt as P

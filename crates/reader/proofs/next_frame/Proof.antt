@@ -7,8 +7,8 @@ use contract.Running.{givenOf, tables, tablesOf}
 use denote.Signature.{namedLft}
 use denote.Triple.Spec.{tripleOf}
 use denote.Triple.Table.{entered, cited}
-use Rattle.decoder.proofs.NextFrame as N
-use Rattle.decoder.proofs.NextFrame.Laws as N′
+use Rattle.frames.proofs.NextFrame as N
+use Rattle.frames.proofs.NextFrame.Laws as N′
 use Rattle.reader.specs.Read.{FrameRead}
 use Rattle.reader.specs.declared.places.FrameAt.{FrameAt}
 use Rattle.reader.specs.declared.ReadFrame.{ReadFrame}

@@ -9,7 +9,8 @@ use lib.IntN.{ℤ}
 use lib.ListN.{length}
 use Rattle.word.specs.Rules.{Answer}
 use Rattle.format.specs.Streaming.{streamed}
-use Rattle.whole.specs.Told.{countIn, kept, toldFrames}
+use Rattle.survey.specs.Told.{toldFrames}
+use Rattle.whole.specs.Told.{countIn, kept}
 use Rattle.whole.proofs.Calls.{frames-counted, frames-good, frames-refused, Streams}
 use Rattle.whole.proofs.decode_frames.Statement.{statement}
 use Rattle.whole.proofs.decode_frames.Tie as tie

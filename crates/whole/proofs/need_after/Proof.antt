@@ -6,9 +6,10 @@ use native.Mathlib.Omega.{arith}
 use denote.Ref.{now}
 use lib.ListN.{length-drop}
 use Rattle.word.specs.Rules.{Answer, _then_}
-use Rattle.whole.specs.Told.{summaryIn, toldFrames}
-use Rattle.whole.specs.Survey.{audioAfter}
-use Rattle.whole.specs.declared.answer.FramesAnswer.{FramesAnswer}
+use Rattle.survey.specs.Told.{toldFrames}
+use Rattle.whole.specs.Told.{summaryIn}
+use Rattle.survey.specs.Survey.{audioAfter}
+use Rattle.survey.specs.declared.FramesAnswer.{FramesAnswer}
 use Rattle.whole.proofs.Surveying.{no-frame, summary, surveyed}
 use Rattle.whole.proofs.need_after.Statement.{statement}
 use Rattle.whole.proofs.need_after.Tie as tie

@@ -1,7 +1,7 @@
 -- `block::decoding::write_mode` meets its contract. Assumes nothing.
 use borrow.Author.Needs.{needs}
 use mathlib.Core.Path.{ap, sym, _∙_}
-use Rattle.encoder.specs.Parts.{overlaid}
+use Rattle.body.specs.Laid.{overlaid}
 use Rattle.state.specs.declared.ProcessingMode.{ProcessingMode}
 use Rattle.block.specs.DecoderBlock.{modeBytes}
 use Rattle.block.proofs.decoding.write_mode.Statement.{statement}

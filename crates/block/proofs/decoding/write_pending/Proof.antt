@@ -12,10 +12,10 @@ use Rattle.wrap.proofs.Integers.{returned}
 use Rattle.word.specs.Bytes.{bytesOf}
 use Rattle.word.proofs.BytesLaws.{length-bytes}
 use Rattle.header.specs.Format.{maxChannels}
-use Rattle.encoder.specs.Frame.{laid}
-use Rattle.encoder.specs.Parts.{overlaid}
-use Rattle.encoder.proofs.Laids.{length-blocks, next-block}
-use Rattle.encoder.proofs.Overlays.{over-nil, over-put}
+use Rattle.body.specs.Laid.{laid}
+use Rattle.body.specs.Laid.{overlaid}
+use Rattle.body.proofs.Laids.{length-blocks, next-block}
+use Rattle.body.proofs.Overlays.{over-nil, over-put}
 use Rattle.block.proofs.Holding.{sampleHeld}
 use Rattle.block.proofs.decoding.write_pending.Statement.{statement}
 use Rattle.block.proofs.decoding.write_pending.Tie as tie

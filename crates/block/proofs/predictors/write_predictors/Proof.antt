@@ -9,10 +9,10 @@ use Rattle.word.specs.Written.{table}
 use Rattle.lms.specs.declared.QoaLms.{QoaLms}
 use Rattle.header.specs.Format.{maxChannels}
 use Rattle.header.specs.Predictor.{lmsOf}
-use Rattle.encoder.specs.Frame.{laid}
-use Rattle.encoder.specs.Parts.{overlaid}
-use Rattle.encoder.proofs.Laids.{length-blocks, next-block}
-use Rattle.encoder.proofs.Overlays.{over-nil}
+use Rattle.body.specs.Laid.{laid}
+use Rattle.body.specs.Laid.{overlaid}
+use Rattle.body.proofs.Laids.{length-blocks, next-block}
+use Rattle.body.proofs.Overlays.{over-nil}
 use Rattle.block.specs.Predictors.{predictorBytes, predictorsBytes}
 use Rattle.block.proofs.Holding.{held-bytes}
 use Rattle.block.proofs.Layouts.{length-predictor}

@@ -2,9 +2,9 @@
 use mathlib.Core.Path.{refl, ap}
 use Rattle.state.specs.View.{view}
 use Rattle.decoder.specs.Items.{settled}
-use Rattle.decoder.specs.Frames.{EnterDone}
-use Rattle.decoder.specs.declared.FrameAnswer.the-variants.{End}
-use Rattle.decoder.proofs.FrameLaws.{enter-end}
+use Rattle.frames.specs.Frames.{EnterDone}
+use Rattle.frames.specs.declared.FrameAnswer.the-variants.{End}
+use Rattle.frames.proofs.FrameLaws.{enter-end}
 use Rattle.decoder.proofs.ItemLaws.{itemFrom, next-turn}
 use borrow.Author.Needs.{needs}
 use Rattle.decoder.proofs.items.frame_item.Statement.{statement}

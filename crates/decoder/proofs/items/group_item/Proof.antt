@@ -10,9 +10,9 @@ use lib.ListN.{getD, length}
 use mir.Syntax.{w16}
 use Rattle.wrap.proofs.Integers.{returned}
 use Rattle.state.specs.View.{view}
-use Rattle.decoder.proofs.Counts.{groups-one}
+use Rattle.into.proofs.Counts.{groups-one}
 use Rattle.decoder.proofs.ItemLaws.{group-cut, group-turn}
-use Rattle.decoder.proofs.Sound.{Sound, sound}
+use Rattle.into.proofs.Sound.{Sound, sound}
 use borrow.Author.Needs.{needs}
 use Rattle.decoder.proofs.items.group_item.Statement.{statement}
 use Rattle.decoder.proofs.items.group_item.Tie as tie

@@ -8,7 +8,7 @@ use Rattle.state.specs.View.{view}
 use Rattle.state.specs.States.{goodState}
 use Rattle.decoder.specs.Items.{first-header, from-group, from-next, from-pending}
 use Rattle.decoder.proofs.ItemLaws.{item-bad, item-turn, turn-group, turn-header, turn-next, turn-pending}
-use Rattle.decoder.proofs.Sound.{Sound, sound}
+use Rattle.into.proofs.Sound.{Sound, sound}
 use borrow.Author.Needs.{needs}
 use Rattle.decoder.proofs.items.next_item.Statement.{statement}
 use Rattle.decoder.proofs.items.next_item.Tie as tie

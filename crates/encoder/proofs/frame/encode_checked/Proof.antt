@@ -13,7 +13,7 @@ use Rattle.encoder.specs.Parts.{FrameFits, toldWide}
 use Rattle.encoder.proofs.Done.{frame-done, frame-fits, frame-wide, good-left}
 use Rattle.encoder.proofs.Frames.{wide-view}
 use Rattle.encoder.proofs.GoodEncoders.{Good}
-use Rattle.encoder.proofs.Overlays.{over-start}
+use Rattle.encoder.proofs.Heads.{over-start}
 use Rattle.encoder.proofs.frame.encode_checked.Statement.{statement}
 use Rattle.encoder.proofs.frame.encode_checked.Tie as tie
 

@@ -9,8 +9,8 @@ use Rattle.header.specs.Format.{frameLength, maxChannels, mostRate, stateEnd}
 use Rattle.header.specs.Predictor.{lmsOf}
 use Rattle.encoder.specs.Encoder.{view}
 use Rattle.encoder.proofs.Frames.{after-of, frame-of, frame-over, frame-small, frame-within}
-use Rattle.encoder.proofs.Laids.{length-states}
-use Rattle.encoder.proofs.Overlays.{length-over}
+use Rattle.body.proofs.Laids.{length-states}
+use Rattle.body.proofs.Overlays.{length-over}
 use Rattle.encoder.proofs.frame.put_frame.Statement.{statement}
 use Rattle.encoder.proofs.frame.put_frame.Tie as tie
 

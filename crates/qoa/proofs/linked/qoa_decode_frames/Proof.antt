@@ -6,8 +6,8 @@ use denote.Ref.{now}
 use lib.ListN.{length}
 use mir.Syntax.{w64}
 use Rattle.wrap.proofs.Integers.{returned}
-use Rattle.whole.specs.Told.{toldFrames}
-use Rattle.whole.specs.declared.answer.FramesAnswer.{FramesAnswer}
+use Rattle.survey.specs.Told.{toldFrames}
+use Rattle.survey.specs.declared.FramesAnswer.{FramesAnswer}
 use Rattle.codes.specs.Codes.{coded}
 use Rattle.qoa.proofs.Fitting.{streamed-fits}
 use Rattle.qoa.proofs.linked.qoa_decode_frames.Statement.{statement}

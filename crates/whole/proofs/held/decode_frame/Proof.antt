@@ -14,7 +14,7 @@ use Rattle.word.specs.Written.{written}
 use Rattle.word.proofs.Writes.{written-list}
 use Rattle.header.specs.Format.{frameLength, stateEnd}
 use Rattle.header.proofs.Headers.{frame-long}
-use Rattle.slice.specs.Groups.{groupsAt}
+use Rattle.groups.specs.Groups.{groupsAt}
 use Rattle.format.proofs.Places.{StatesAt, frame-here, states-read, states-within}
 use Rattle.whole.proofs.held.decode_frame.Statement.{statement}
 use Rattle.whole.proofs.held.decode_frame.Tie as tie

@@ -1,0 +1,3 @@
+-- Laws for the crates above.
+pub mod FrameLaws
+pub mod Settled

@@ -1,0 +1,4 @@
+-- Laws for the crates above.
+pub mod Walking
+pub mod FrameKinds
+pub mod Answers

@@ -1,0 +1,3 @@
+-- What the contracts cite: the calls' first, then those of their parts.
+pub mod Told
+pub mod Survey
