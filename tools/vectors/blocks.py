@@ -1,0 +1,6 @@
+def put(lines):
+    pass
+
+
+def count(lines):
+    return 0
