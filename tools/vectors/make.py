@@ -86,7 +86,7 @@ def predictors_in(text):
 def decoder_in(text):
     head, lms, pending = text.split("/")
     fields = numbers_in(head)
-    return Decoder(fields + [0] * (12 - len(fields)), predictors_in(lms), numbers_in(pending))
+    return Decoder(fields, predictors_in(lms), numbers_in(pending))
 
 
 def listed(values):
@@ -344,8 +344,7 @@ class Cases:
         if refusal:
             self.ask("qoa_decoder_next_frame", -int(refusal.split()[1]), bytes=data, state=block)
             return state, block
-        value = 0 if got is None else got[0] * 2**48 + got[1] * 2**16 + got[2]
-        self.ask("qoa_decoder_next_frame", value, bytes=data, state=block, after={"state": after.block()})
+        self.ask("qoa_decoder_next_frame", model.coded_frame(got), bytes=data, state=block, after={"state": after.block()})
         return after, after.block()
 
     def step_item(self, state, block, data, op, expected):
@@ -355,13 +354,7 @@ class Cases:
         if refusal:
             self.ask("qoa_decoder_next_item", -int(refusal.split()[1]), bytes=data, state=block)
             return state, block
-        if got is None:
-            value = 0
-        elif got[0] == "header":
-            value = 2**60 + got[1][0] * 2**48 + got[1][1] * 2**16 + got[1][2]
-        else:
-            value = 2**61 + got[1] % 2**16
-        self.ask("qoa_decoder_next_item", value, bytes=data, state=block, after={"state": after.block()})
+        self.ask("qoa_decoder_next_item", model.coded_item(got), bytes=data, state=block, after={"state": after.block()})
         return after, after.block()
 
     def step_facts(self, state, block, data, op, expected):
@@ -481,7 +474,7 @@ def main():
         with open(HERE + name) as file:
             cases.written(file.read())
     by_hand = cases.count - recorded
-    blocks.put(cases.lines)
+    of_blocks = blocks.put(cases.lines)
     made = {STDIN: cases.lines.requests, STDOUT: cases.lines.answers}
     for path, lines in made.items():
         text = "\n".join(lines) + "\n"
@@ -493,7 +486,7 @@ def main():
             with open(path, "w") as file:
                 file.write(text)
     print("%d cases: %d from the source's list, %d listed differences, %d by hand; %d lines are calls, %d of them of blocks.py; %d answers are the model's too" % (
-        cases.count, recorded, cases.differing, by_hand, cases.lines.count, blocks.count(cases.lines), cases.modelled))
+        cases.count, recorded, cases.differing, by_hand, cases.lines.count, of_blocks, cases.modelled))
 
 
 main()

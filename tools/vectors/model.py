@@ -207,7 +207,8 @@ class Decoder:
     LAYOUT = ">BIBIQBIHHHHB"
     SIZE = 32 + 72 * LIMIT
 
-    def __init__(self, fields=(0,) * 12, lms=(), pending=()):
+    def __init__(self, fields=(), lms=(), pending=()):
+        fields = tuple(fields) + (0,) * 12
         for name, value in zip(self.FIELDS, fields):
             setattr(self, name, value)
         self.lms = (list(lms) + [NOTHING] * LIMIT)[:LIMIT]
@@ -348,6 +349,18 @@ class Decoder:
         return self.total / self.first_rate if self.mode == 1 else 0.0
 
 
+def coded_frame(found):
+    """The answer to a frame, or to none."""
+    return 0 if found is None else found[0] * 2**48 + found[1] * 2**16 + found[2]
+
+
+def coded_item(item):
+    if item is None:
+        return 0
+    kind, value = item
+    return 2**60 + coded_frame(value) if kind == "header" else 2**61 + value % 2**16
+
+
 def open_decoder(data):
     if len(data) < 4:
         raise Refused(5)
@@ -356,7 +369,7 @@ def open_decoder(data):
     if len(data) < 8:
         raise Refused(5)
     total = int.from_bytes(data[4:8], "big")
-    state = Decoder((0, 0, 0, 0, 8) + (0,) * 7)
+    state = Decoder((0, 0, 0, 0, 8))
     if total != 0:
         found = state.frame(data)
         if found is None:

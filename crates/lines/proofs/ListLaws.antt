@@ -50,5 +50,5 @@ module _ (ask : List ℕ) (at kind width most : ℕ) where
           part = simp (there, known, le-leb (be32 ask (at + 1)) most few, le-leb (at + 5 + be32 ask (at + 1) * width) (length ask) h);
           count = few;
           end = refl;
-          within = h
-          }
+          within = h;
+        }
