@@ -5,13 +5,8 @@ use header::Checked;
 use header::FileAnswer;
 use header::FrameHeader;
 use header::Refusal;
-use libc::STDERR_FILENO;
-use libc::STDIN_FILENO;
-use libc::STDOUT_FILENO;
 use survey::First;
 use survey::Kind;
-ghost use Prim.Native.Nat.{_≤_};
-ghost use lib.ListN.{length};
 
 // The most bytes of a whole file.
 const MOST_BYTES: u64 = 0xffff_ffff;
@@ -26,12 +21,6 @@ struct Run {
     rate: u32,
 }
 
-// How many bytes came, and whether a read failed.
-struct Got {
-    count: usize,
-    failed: bool,
-}
-
 fn stopped() -> Run {
     Run {
         going: false,
@@ -42,49 +31,12 @@ fn stopped() -> Run {
     }
 }
 
-fn say(words: &[u8]) {
-    io::write_all(STDERR_FILENO, words);
-}
-
+// A refusal's number, on standard error.
 fn say_number(number: u8) {
-    io::print_decimal(STDERR_FILENO, number as u64);
-    say(b"\n");
-}
-
-// One read from standard input.
-fn read_once(buffer: &mut [u8]) -> Got
-    ensures { λ r. ⌜ r .count ≤ length (now (buffer .entry)) ⌝ }
-{
-    let got = libc::read(STDIN_FILENO, buffer);
-    let failed = got < 0;
-    Got {
-        count: io::count(got, buffer),
-        failed,
-    }
-}
-
-// Reads until the buffer is full, the input ends or a read fails.
-fn fill(buffer: &mut [u8]) -> Got
-    ensures { λ r. ⌜ r .count ≤ length (now (buffer .entry)) ⌝ }
-{
-    let mut n = 0usize;
-    while n < buffer.len() {
-        let got = read_once(&mut buffer[n..]);
-        if got.failed {
-            return Got {
-                count: n,
-                failed: true,
-            };
-        }
-        if got.count == 0 {
-            break;
-        }
-        n += got.count;
-    }
-    Got {
-        count: n,
-        failed: false,
-    }
+    let mut digits = [0u8; 20];
+    let n = io::decimal(number as u64, &mut digits);
+    stdio::say(&digits[0..n]);
+    stdio::say(b"\n");
 }
 
 // How long an input is, and whether a read failed.
@@ -97,7 +49,7 @@ struct Length {
 fn drain(read: u64, buffer: &mut [u8]) -> Length {
     let mut all = read;
     while all <= MOST_BYTES {
-        let got = read_once(buffer);
+        let got = stdio::read_chunk(buffer);
         if got.failed {
             return Length { all, failed: true };
         }
@@ -113,8 +65,9 @@ fn drain(read: u64, buffer: &mut [u8]) -> Length {
 fn refuse(refusal: Refusal, read: u64, buffer: &mut [u8]) -> Run {
     let length = drain(read, buffer);
     if length.failed {
-        say(b"read failed\n");
-    } else if MOST_BYTES < length.all {
+        return stopped();
+    }
+    if MOST_BYTES < length.all {
         say_number(header::number(Refusal::InputTooLong));
     } else {
         say_number(header::number(refusal));
@@ -127,9 +80,8 @@ fn start(buffer: &mut [u8]) -> Run {
     if buffer.len() < 8 {
         return stopped();
     }
-    let got = fill(&mut buffer[0..8]);
+    let got = stdio::fill(&mut buffer[0..8]);
     if got.failed {
-        say(b"read failed\n");
         return stopped();
     }
     let n = got.count;
@@ -173,8 +125,8 @@ fn write_block(block: &[i16], n: usize, bytes: &mut [u8]) -> bool {
     if bytes.len() / 2 < n {
         return false;
     }
-    pcm::put_le(block, n, bytes);
-    io::write_all(STDOUT_FILENO, &bytes[0..n * 2])
+    word::little::put_samples(block, n, bytes);
+    stdio::write_out(&bytes[0..n * 2])
 }
 
 fn count_of(answer: IntoAnswer) -> usize {
@@ -197,7 +149,6 @@ fn play(frame: &[u8], block: &mut [i16], bytes: &mut [u8]) -> bool {
             return true;
         }
         if !write_block(block, n, bytes) {
-            say(b"write failed\n");
             return false;
         }
         d = made.state;
@@ -228,9 +179,8 @@ fn rest(
     if MOST_BYTES - run.read < size as u64 {
         return stopped();
     }
-    let got = fill(&mut buffer[start..size]);
+    let got = stdio::fill(&mut buffer[start..size]);
     if got.failed {
-        say(b"read failed\n");
         return stopped();
     }
     if got.count < size - start {
@@ -260,7 +210,7 @@ fn body(
 ) -> Run {
     let size = header::frame_length(h.channels as usize, h.samples as usize);
     if buffer.len() < size {
-        say(b"frame too large\n");
+        stdio::say(b"frame too large\n");
         return stopped();
     }
     if MOST_BYTES < run.read {
@@ -314,9 +264,8 @@ fn frame(run: Run, h: FrameHeader, buffer: &mut [u8], block: &mut [i16], bytes: 
     if end < 8 {
         return stopped();
     }
-    let got = fill(&mut buffer[8..end]);
+    let got = stdio::fill(&mut buffer[8..end]);
     if got.failed {
-        say(b"read failed\n");
         return stopped();
     }
     if MOST_BYTES < run.read {
@@ -339,9 +288,8 @@ fn step(run: Run, buffer: &mut [u8], block: &mut [i16], bytes: &mut [u8]) -> Run
     if MOST_BYTES < run.read {
         return stopped();
     }
-    let got = fill(&mut buffer[0..8]);
+    let got = stdio::fill(&mut buffer[0..8]);
     if got.failed {
-        say(b"read failed\n");
         return stopped();
     }
     let n = got.count;

@@ -3,6 +3,7 @@ pub mod Push
 pub mod Tables
 pub mod Writes
 pub mod BytesLaws
+pub mod LittleLaws
 pub mod Fields
 pub mod Words
 pub mod Rules

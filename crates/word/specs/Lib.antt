@@ -1,5 +1,6 @@
 -- What the contracts cite.
 pub mod Written
 pub mod Bytes
+pub mod Little
 pub mod Word
 pub mod Rules

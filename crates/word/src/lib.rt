@@ -1,4 +1,6 @@
-// Big-endian numbers in bytes, and the fields of a slice's 64-bit word.
+// Big-endian numbers in bytes, and the fields of a slice's 64-bit word; little-endian numbers and samples in `little`.
+pub mod little;
+
 ghost use mathlib.Core.Path.{_≡_};
 ghost use Prim.Native.Nat.{_+_, _*_, _^_, _≤_, _<_};
 ghost use lib.ListN.{length};

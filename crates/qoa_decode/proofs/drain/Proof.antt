@@ -15,8 +15,8 @@ abbrev μ-loop : tie.MeasureT-loop
 loop-holds : tie.Need-loop-holds Inv-loop μ-loop
 loop-holds c = search needs
 
-read-once-requires : tie.Need-read-once-requires Inv-loop μ-loop
-read-once-requires c κs = search needs
+read-chunk-requires : tie.Need-read-chunk-requires Inv-loop μ-loop
+read-chunk-requires c κs = search needs
 
 same-length : tie.Need-same-length Inv-loop μ-loop
 same-length c = search needs
@@ -52,7 +52,7 @@ drain-spec =
     Inv-loop
     μ-loop
     loop-holds
-    read-once-requires
+    read-chunk-requires
     same-length
     returns
     add-all

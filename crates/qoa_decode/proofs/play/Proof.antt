@@ -6,10 +6,10 @@ use Rattle.qoa_decode.proofs.play.Statement.{statement}
 use Rattle.qoa_decode.proofs.play.Tie as tie
 
 abbrev Inv-loop : tie.InvT-loop
-Inv-loop frame block₀ bytes₀ d₀ turns₀ t10 block bytes d turns = (length block ≡ length block₀) × (length bytes ≡ length bytes₀)
+Inv-loop frame block₀ bytes₀ d₀ turns₀ block bytes d turns = (length block ≡ length block₀) × (length bytes ≡ length bytes₀)
 
 abbrev μ-loop : tie.MeasureT-loop
-μ-loop frame block₀ bytes₀ d₀ turns₀ t10 block bytes d turns = turns
+μ-loop frame block₀ bytes₀ d₀ turns₀ block bytes d turns = turns
 
 zero-state-requires : tie.Need-zero-state-requires Inv-loop μ-loop
 zero-state-requires c κs = search needs
@@ -37,12 +37,6 @@ returns c = search needs
 
 write-block-requires : tie.Need-write-block-requires Inv-loop μ-loop
 write-block-requires c κs = search needs
-
-slice-aggregate-say : tie.Need-slice-aggregate-say Inv-loop μ-loop
-slice-aggregate-say c = search needs
-
-say-requires : tie.Need-say-requires Inv-loop μ-loop
-say-requires c κs = search needs
 
 same-length-3 : tie.Need-same-length-3 Inv-loop μ-loop
 same-length-3 c = search needs
@@ -86,8 +80,6 @@ play-spec =
     same-length-2
     returns
     write-block-requires
-    slice-aggregate-say
-    say-requires
     same-length-3
     same-length-4
     returns-2
