@@ -86,22 +86,22 @@ fn frame_code(frame: FrameFacts) -> usize
 pub extern "C" fn qoa_decoder_next_frame(bytes: &[u8], state: &mut [u8]) -> i64
     ensures { λ r. ⌜ FrameLinked (now (bytes .entry)) (now (state .entry)) r (now (state .exit)) ⌝ }
 {
-    let given = block::read_decoder(state);
-    if !given.readable {
+    let current = block::read_decoder(state);
+    if !current.readable {
         return minus(Refusal::BadState);
     }
-    let before = given.state;
-    let done = decoder::next_frame(before, bytes);
-    let answer = done.answer;
-    let after = done.state;
+    let before = current.state;
+    let found = decoder::next_frame(before, bytes);
+    let answer = found.answer;
+    let moved = found.state;
     match answer {
         FrameAnswer::Refused(r) => minus(r),
         FrameAnswer::End => {
-            block::write_decoder(state, after);
+            block::write_decoder(state, moved);
             0
         }
         FrameAnswer::Frame(frame) => {
-            block::write_decoder(state, after);
+            block::write_decoder(state, moved);
             count(frame_code(frame))
         }
     }
@@ -112,26 +112,26 @@ pub extern "C" fn qoa_decoder_next_frame(bytes: &[u8], state: &mut [u8]) -> i64
 pub extern "C" fn qoa_decoder_next_item(bytes: &[u8], state: &mut [u8]) -> i64
     ensures { λ r. ⌜ ItemLinked (now (bytes .entry)) (now (state .entry)) r (now (state .exit)) ⌝ }
 {
-    let given = block::read_decoder(state);
-    if !given.readable {
+    let held = block::read_decoder(state);
+    if !held.readable {
         return minus(Refusal::BadState);
     }
-    let before = given.state;
-    let done = decoder::next_item(before, bytes);
-    let item = done.item;
-    let after = done.state;
+    let before = held.state;
+    let step = decoder::next_item(before, bytes);
+    let item = step.item;
+    let later = step.state;
     match item {
         QoaItem::Refused(r) => minus(r),
         QoaItem::End => {
-            block::write_decoder(state, after);
+            block::write_decoder(state, later);
             0
         }
         QoaItem::Header(frame) => {
-            block::write_decoder(state, after);
+            block::write_decoder(state, later);
             count(0x1000_0000_0000_0000 + frame_code(frame))
         }
         QoaItem::Sample(sample) => {
-            block::write_decoder(state, after);
+            block::write_decoder(state, later);
             count(0x2000_0000_0000_0000 + (wrap::pattern16(sample) as usize))
         }
     }
@@ -141,12 +141,12 @@ pub extern "C" fn qoa_decoder_next_item(bytes: &[u8], state: &mut [u8]) -> i64
 fn facts_in(bytes: &[u8], state: &[u8]) -> FactsAnswer
     ensures { λ r. ⌜ toldFacts r ≡ factsIn (now (state .entry)) (length (now (bytes .entry))) ⌝ }
 {
-    let given = block::read_decoder(state);
-    if !given.readable {
+    let shown = block::read_decoder(state);
+    if !shown.readable {
         return FactsAnswer::Refused(Refusal::BadState);
     }
-    let held = given.state;
-    state::facts_given(held, bytes)
+    let known = shown.state;
+    state::facts_given(known, bytes)
 }
 
 // Stores the three numbers at the start of lent memory.

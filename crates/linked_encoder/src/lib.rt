@@ -49,11 +49,11 @@ pub extern "C" fn qoa_encoder_new(channels: u8, rate: u32, total: u32, state: &m
 pub extern "C" fn qoa_encoder_header(state: &[u8], out: &mut [u8]) -> i64
     ensures { λ r. ⌜ HeaderLinked (now (state .entry)) (now (out .entry)) r (now (out .exit)) ⌝ }
 {
-    let given = block::read_encoder(state);
-    if !given.readable {
+    let shown = block::read_encoder(state);
+    if !shown.readable {
         return minus(Refusal::BadState);
     }
-    let held = given.state;
+    let held = shown.state;
     encoded(encoder::write_header(held, out))
 }
 
@@ -91,14 +91,14 @@ pub extern "C" fn qoa_encoder_frame(state: &mut [u8], samples: &[i16], out: &mut
 pub extern "C" fn qoa_encoder_file(state: &mut [u8], samples: &[i16], out: &mut [u8]) -> i64
     ensures { λ r. ⌜ FileLinked (now (state .entry)) (now (samples .entry)) (now (out .entry)) r (now (state .exit)) (now (out .exit)) ⌝ }
 {
-    let given = block::read_encoder(state);
-    if !given.readable {
+    let held = block::read_encoder(state);
+    if !held.readable {
         return minus(Refusal::BadState);
     }
-    let before = given.state;
-    let done = oneshot::encode(before, samples, out);
-    let answer = done.answer;
-    let after = done.state;
-    keep(state, answer, after);
+    let before = held.state;
+    let shot = oneshot::encode(before, samples, out);
+    let answer = shot.answer;
+    let last = shot.state;
+    keep(state, answer, last);
     encoded(answer)
 }
