@@ -12,10 +12,15 @@ use qoa::linked;
 
 // The kinds of lists, in the order in which they stand. Numbers and bytes are read; the others are given back.
 const NUMBERS: u8 = 1;
+
 const BYTES: u8 = 2;
+
 const STATE: u8 = 3;
+
 const OUT: u8 = 4;
+
 const SAMPLES: u8 = 5;
+
 const FACTS: u8 = 6;
 
 // The numbers of a request, 0 where there are fewer.
@@ -94,6 +99,43 @@ fn writing(call: u8, n: Numbers, samples: &[i16], out: &mut [u8]) -> Told {
             samples,
             out,
         )),
+        _ => Told::Unknown,
+    }
+}
+
+// Calls on a decoder whose state is a block.
+fn decoding(
+    call: u8,
+    bytes: &[u8],
+    state: &mut [u8],
+    samples: &mut [i16],
+    facts: &mut [u32],
+) -> Told {
+    match call {
+        0x31 => whole(linked_decoder::qoa_decoder_size()),
+        0x32 => whole(linked_decoder::qoa_decoder_open(bytes, state)),
+        0x33 => whole(linked_decoder::qoa_decoder_into(bytes, state, samples)),
+        0x34 => whole(linked_decoder::qoa_decoder_next_frame(bytes, state)),
+        0x35 => whole(linked_decoder::qoa_decoder_next_item(bytes, state)),
+        0x36 => whole(linked_decoder::qoa_decoder_facts(bytes, state, facts)),
+        0x37 => double(linked_decoder::qoa_decoder_seconds(bytes, state)),
+        _ => Told::Unknown,
+    }
+}
+
+// Calls on an encoder whose state is a block.
+fn encoding(call: u8, n: Numbers, state: &mut [u8], samples: &[i16], out: &mut [u8]) -> Told {
+    match call {
+        0x41 => whole(linked_encoder::qoa_encoder_size()),
+        0x42 => whole(linked_encoder::qoa_encoder_new(
+            low8(n.first),
+            low32(n.second),
+            low32(n.third),
+            state,
+        )),
+        0x43 => whole(linked_encoder::qoa_encoder_header(state, out)),
+        0x44 => whole(linked_encoder::qoa_encoder_frame(state, samples, out)),
+        0x45 => whole(linked_encoder::qoa_encoder_file(state, samples, out)),
         _ => Told::Unknown,
     }
 }
@@ -188,6 +230,8 @@ fn call(
         0 => reading(which, n, bytes),
         1 => hearing(which, bytes, samples),
         2 => writing(which, n, samples, out),
+        3 => decoding(which, bytes, state, samples, facts),
+        4 => encoding(which, n, state, samples, out),
         _ => Told::Unknown,
     }
 }
@@ -325,46 +369,66 @@ fn make_call(ask: &mut [u8], p: Places) -> Told
     perform(ask, p, &mut state, &mut out, &mut samples, &mut facts)
 }
 
-// The answer's bits and the lists from a place on, as hex.
-fn put_answer(ask: &[u8], from: usize, bits: u64, text: &mut [u8]) -> usize
+// Writes the answer's bits and the lists from a place on, as a line of hex.
+fn put_answer(ask: &[u8], from: usize, bits: u64, text: &mut [u8]) -> bool
     requires { ⌜ from ≤ length (now ask) ⌝ }
-    ensures { λ r. ⌜ r ≤ length (now (text .entry)) ⌝ }
 {
     let mut head = [0u8; 8];
     word::write_u64(&mut head, 0, bits);
-    let at = hex::put_hex(text, 0, &head);
-    hex::put_hex(text, at, &ask[from..])
+    let lists = hex::put_hex(text, 0, &head);
+    let end = hex::put_hex(text, lists, &ask[from..]);
+    let n = put_text(text, end, b"\n");
+    let all = &text[..];
+    stdio::write_out(&all[0..n])
 }
 
-// What is wrong with the list at a place.
-fn put_fault(ask: &[u8], at: usize, text: &mut [u8]) -> usize
-    requires { ⌜ at < length (now ask) ⌝ }
-    ensures { λ r. ⌜ r ≤ length (now (text .entry)) ⌝ }
+fn write_answer(ask: &[u8], from: usize, bits: u64) -> bool
+    requires { ⌜ from ≤ length (now ask) ⌝ }
 {
-    let kind = ask[at];
+    let mut text = [0u8; 131200];
+    put_answer(ask, from, bits, &mut text)
+}
+
+// What is wrong with a list, by its kind.
+fn write_fault(kind: u8) -> bool {
     if kind < NUMBERS {
-        return put_text(text, 0, b"no such kind of list");
+        return stdio::write_out(b"no such kind of list\n");
     }
     if FACTS < kind {
-        return put_text(text, 0, b"no such kind of list");
+        return stdio::write_out(b"no such kind of list\n");
     }
-    put_text(text, 0, b"a list is cut, too long, or out of order")
+    stdio::write_out(b"a list is cut, too long, or out of order\n")
 }
 
-// A request.
-fn answer(ask: &mut [u8], text: &mut [u8]) -> usize
+// A request. Answers, as those below do, whether the answer was written.
+fn answer(ask: &mut [u8]) -> bool
     requires { ⌜ 1 ≤ length (now ask) ⌝ }
-    ensures { λ r. ⌜ r ≤ length (now (text .entry)) ⌝ }
 {
     let p = take_apart(ask);
     let end = p.facts.next;
     if end < ask.len() {
-        return put_fault(ask, end, text);
+        return write_fault(ask[end]);
     }
     match make_call(ask, p) {
-        Told::Unknown => put_text(text, 0, b"no such call"),
-        Told::Bits(bits) => put_answer(ask, p.bytes.next, bits, text),
+        Told::Unknown => stdio::write_out(b"no such call\n"),
+        Told::Bits(bits) => write_answer(ask, p.bytes.next, bits),
     }
+}
+
+// The hex of a request, read into a place for it.
+fn answer_hex(line: &[u8], ask: &mut [u8]) -> bool {
+    let n = line.len() / 2;
+    if n == 0 {
+        return stdio::write_out(b"not hex\n");
+    }
+    if !hex::is_hex(line) {
+        return stdio::write_out(b"not hex\n");
+    }
+    if ask.len() < n {
+        return stdio::write_out(b"line too long\n");
+    }
+    hex::read_hex(line, &mut ask[0..n]);
+    answer(&mut ask[0..n])
 }
 
 // Whether a line is written out as it is.
@@ -375,50 +439,24 @@ fn is_remark(line: &[u8]) -> bool {
     line[0] == b'#'
 }
 
-// The hex of a request, which gets a place of its own.
-fn answer_hex(line: &[u8], ask: &mut [u8], text: &mut [u8]) -> usize
-    ensures { λ r. ⌜ r ≤ length (now (text .entry)) ⌝ }
-{
-    let n = line.len() / 2;
-    if n == 0 {
-        return put_text(text, 0, b"not hex");
-    }
-    if !hex::is_hex(line) {
-        return put_text(text, 0, b"not hex");
-    }
-    if ask.len() < n {
-        return put_text(text, 0, b"line too long");
-    }
-    hex::read_hex(line, &mut ask[0..n]);
-    answer(&mut ask[0..n], text)
-}
-
 // A line: a remark, or the hex of a request.
-fn reply(line: &[u8], text: &mut [u8]) -> usize
-    ensures { λ r. ⌜ r ≤ length (now (text .entry)) ⌝ }
-{
+fn reply(line: &[u8]) -> bool {
     if is_remark(line) {
-        return put_text(text, 0, line);
+        if !stdio::write_out(line) {
+            return false;
+        }
+        return stdio::write_out(b"\n");
     }
     let mut ask = [0u8; 65536];
-    answer_hex(line, &mut ask, text)
+    answer_hex(line, &mut ask)
 }
 
-// Writes the reply to a line.
-fn write_reply(line: &[u8], text: &mut [u8]) -> bool {
-    let put = reply(line, text);
-    let end = put_text(text, put, b"\n");
-    let all = &text[..];
-    stdio::write_out(&all[0..end])
-}
-
-// Ends a line, of which n bytes stand in its place. Answers whether the reply was written.
+// Ends a line, of which n bytes stand in its place.
 fn end_line(line: &[u8], n: usize) -> bool {
     if line.len() <= n {
         return stdio::write_out(b"line too long\n");
     }
-    let mut text = [0u8; 131200];
-    write_reply(&line[0..n], &mut text)
+    reply(&line[0..n])
 }
 
 // What is held between two reads: how much of a line, and whether to go on.
