@@ -21,9 +21,8 @@
    A refused call changes no lent memory (14 of a whole file aside: qoa_encode_all). An accepted call touches nothing past what
    it reports. Samples have 16 bits, channels interleaved; a total is a number of samples per channel.
 
-   A FILE THAT WAS CUT BETWEEN TWO FRAMES IS ACCEPTED: the total in its header is compared with nothing. A caller who wants to
-   know compares them: the file is whole where qoa_facts_total is 0 (a stream, which tells no total) or equals qoa_decode_need
-   divided by qoa_channels. */
+   A FILE THAT WAS CUT BETWEEN TWO FRAMES IS ACCEPTED: the total in its header is compared with nothing. Who wants to know compares
+   qoa_facts_total with qoa_decode_need divided by qoa_channels: a whole file has them equal. (A stream, of total 0, can't tell.) */
 #ifndef TROMVASK_H
 #define TROMVASK_H
 
@@ -80,9 +79,10 @@ int64_t qoa_part_length(const uint8_t *bytes, size_t length, size_t at);
 /* ---- Decoding piece by piece ----
 
    A decoder's state is a block of bytes that the caller lends: qoa_decoder_size() of them. What stands in it is the library's own
-   affair. A block may be copied (a copy decodes on from the same place) and kept, but it is no file: its size and its layout
-   are those of the library that wrote it. So ask for the size, and pass it as the block's length. A block of another length, or
-   one that no decoder could have written, is refused (8) by each of these calls before all else.
+   affair. A block may be copied (the copy decodes on from the same place) and kept while the program runs, but it is no file: its
+   size and layout are those of the library that wrote it. So ask for the size, and pass it as the block's length. Each of these
+   calls first refuses (8) a block of another length, or with numbers that no state has. A block that was damaged and still looks
+   like a state gives other samples; it never makes a call touch other memory.
 
    `bytes` is the whole file, the same in every call (mapped, say: only what is decoded next is read).
 
@@ -133,8 +133,8 @@ double qoa_decoder_seconds(const uint8_t *bytes, size_t length, const uint8_t *s
 /* ---- Encoding piece by piece ----
 
    An encoder's state is a block of qoa_encoder_size() bytes, for which the same holds as for a decoder's. The file is the file
-   header and then its frames in order. All frames but the last have QOA_FULL_FRAME samples per channel: other readers may insist on it.
-   The total is declared first, and nothing holds the frames to it.
+   header and then its frames in order. All frames but the last should have QOA_FULL_FRAME samples per channel: other readers may
+   insist on it. The total is declared first, and nothing holds the frames to it.
 
      // Records total samples per channel; state has size = qoa_encoder_size() bytes, and out qoa_encode_need(channels,
      // QOA_FULL_FRAME), which is enough for any frame. 0, or minus the number of a refusal.
@@ -161,9 +161,9 @@ int64_t qoa_encoder_new(uint8_t channels, uint32_t rate, uint32_t total, uint8_t
 /* Writes the file header: 8 bytes. */
 int64_t qoa_encoder_header(const uint8_t *state, size_t size, uint8_t *out, size_t room);
 
-/* Encodes the next frame: `count` is 1 to QOA_FULL_FRAME times the channels, and a multiple of them (else 13). Counts bytes: exactly
-   qoa_encode_need(channels, count / channels) less the 8 of the file header. Refusal 14 is -(14 + 256 * channel); the frame can't
-   be written, nor any after it from this state. */
+/* Encodes the next frame: `count` samples, a multiple of the channels and at most QOA_FULL_FRAME of each (else 13). Counts bytes:
+   exactly qoa_encode_need(channels, count / channels) less the 8 of the file header. Refusal 14 is -(14 + 256 * channel); from this
+   state no frame can be written any more. */
 int64_t qoa_encoder_frame(uint8_t *state, size_t size, const int16_t *samples, size_t count, uint8_t *out, size_t room);
 
 /* Encodes a whole file, header and frames, of the state's total times channels samples. Counts bytes. 14 as in qoa_encode_all. */
@@ -185,12 +185,12 @@ int64_t qoa_encoder_file(uint8_t *state, size_t size, const int16_t *samples, si
 #define QOA_FRAME_RATE(answer) ((uint32_t)((int64_t)(answer) >> 16 & 0xffffffff))
 #define QOA_FRAME_SAMPLES(answer) ((int)((int64_t)(answer) & 0xffff))
 
-/* Of an answer of qoa_decoder_next_item above 0. */
-#define QOA_IS_HEADER(answer) ((int)((int64_t)(answer) >> 60 & 1))
-#define QOA_IS_SAMPLE(answer) ((int)((int64_t)(answer) >> 61 & 1))
+/* Of any answer of qoa_decoder_next_item: neither holds at the end or for a refusal. */
+#define QOA_IS_HEADER(answer) ((int64_t)(answer) >> 60 == 1)
+#define QOA_IS_SAMPLE(answer) ((int64_t)(answer) >> 60 == 2)
 #define QOA_SAMPLE(answer) ((int16_t)((((int64_t)(answer) & 0xffff) ^ 0x8000) - 0x8000))
 
-/* The words for the number of a refusal, as QOA_REFUSAL gives it (not for an answer); for any other number "an unknown refusal". */
+/* The words for the number of a refusal, as QOA_REFUSAL gives it; for any other number, an answer below 0 too, "an unknown refusal". */
 static inline const char *qoa_refusal_words(int64_t number)
 {
     switch (number) {

@@ -75,7 +75,8 @@ impl Tally {
             Said::Facts(_) => "facts".into(),
             Said::Seconds(_) => "seconds".into(),
             Said::Bytes(_) => "bytes".into(),
-            Said::Refused(n) | Said::RefusedAfter(n, _) => format!("refused {}", n & 0xff),
+            Said::Refused(n) => format!("refused {}", n & 0xff),
+            Said::RefusedAfter(_, bytes) => format!("refused 14 after {}", if bytes.len() > 8 { "frames" } else { "the header" }),
             Said::Fault(why) => why.to_string(),
         };
         *self.answers.entry(key).or_default() += 1;
@@ -266,7 +267,7 @@ fn writing(r: &mut Random, c: usize, total: usize) -> Writing {
     if below(r, 20) == 0 {
         return Writing::Header(near(r, 8));
     }
-    if below(r, 6) == 0 && (total <= 300 || total <= 20000 && below(r, 20) == 0) {
+    if below(r, 6) == 0 && (total <= 300 || total <= 20000 && below(r, 4) == 0) {
         let n = if below(r, 10) == 0 { below(r, 2 * total + 1) } else { total };
         let all = samples(r, n, c);
         let need = 8 + all.chunks(5120 * c).map(|f| encoding::frame_bytes(c, f.len() / c)).sum::<usize>();

@@ -60,6 +60,7 @@ static void examples(void)
     HOLDS(played == COUNT && qoa_decode_all(file, saved, whole, COUNT) == COUNT && memcmp(heard, whole, sizeof whole) == 0);
     HOLDS(qoa_facts_total(file, saved) == qoa_decode_need(file, saved) / qoa_channels(file, saved));
     HOLDS(record(9, 44100, COUNT / 2, encoder, size, out, room) == -11);
+    played = 0;
     HOLDS(play_file(file, saved - 1, decoder, states) == -5 && play_file(out, 0, decoder, states) == -5);
     /* items, and reading their answers */
     HOLDS(qoa_decoder_open(file, saved, decoder, states) == 0);

@@ -20,7 +20,8 @@ tried() {
     local name=$1
     shift
     "$@" -o "$out/$name"
-    echo "$name: $(${RUN:-} "$out/$name")"
+    echo -n "$name: "
+    ${RUN:-} "$out/$name"
 }
 cc=${CC:-cc}
 tried c99-archive "$cc" -std=c99 $strict -I"$out" -I"$lib/include" "$here/try.c" "$lib/libtromvask.a"
