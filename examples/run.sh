@@ -9,7 +9,7 @@ bash "$root/tools/library/build.sh"
 lib=$root/target/library
 rm -rf "$out"
 mkdir -p "$out"
-"${CC:-cc}" -std=c99 -O2 -Wall -Wextra -pedantic -Werror -I"$lib/include" "$here/convert.c" "$lib/libtromvask.a" -o "$out/convert-c"
+${CC:-cc} -std=c99 -O2 -Wall -Wextra -pedantic -Werror -I"$lib/include" "$here/convert.c" "$lib/libtromvask.a" -o "$out/convert-c"
 rustc --edition 2021 -O "$here/convert.rs" -C link-arg="$lib/libtromvask.a" -o "$out/convert-rust"
 cd "$out"
 

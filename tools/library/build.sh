@@ -1,6 +1,7 @@
 #!/usr/bin/env bash
 # Makes the library for C, C++ and Rust under target/library: libtromvask.a, libtromvask.so, include/tromvask.h and tromvask.pc.
-# Needs rt and a C compiler with its ar and nm (CC, AR and NM name others than cc, ar and nm). What has not changed is not made again.
+# Needs rt and a C compiler for x86-64, which is what rt compiles for: CC, or the first of cc, x86_64-linux-gnu-gcc and clang that is one. With it
+# come ar and nm (AR and NM name others). What has not changed is not made again.
 set -euo pipefail
 export LC_ALL=C
 # The crates that export C functions; the archive of each has all that it needs, and only these functions are seen from outside.
@@ -8,12 +9,16 @@ crates='qoa linked_decoder linked_encoder'
 
 root=$(cd "$(dirname "$0")/../.." && pwd -P)
 out=$root/target/library
-cc=${CC:-cc} ar=${AR:-ar} nm=${NM:-nm}
+cc=${CC:-} ar=${AR:-ar} nm=${NM:-nm}
 header=$root/include/tromvask.h
 mkdir -p "$out/parts" "$out/include"
 trap 'rm -rf "$out/new"' EXIT
 say() { echo "library: $*"; }
 fail() { echo "library: $*" >&2; exit 1; }
+for one in cc x86_64-linux-gnu-gcc 'clang --target=x86_64-linux-gnu'; do
+    [ -n "$cc" ] || case $($one -dumpmachine 2>/dev/null || true) in x86_64*) cc=$one ;; esac
+done
+[ -n "$cc" ] || fail 'no C compiler for x86-64 was found (CC names one)'
 
 # What an archive depends on: the toolchain, and the lines of crates.txt and the files of those crates.
 sum() { # NAME
@@ -58,9 +63,9 @@ needed=$("$nm" -g -u "$out/new/libtromvask.a" | awk 'NF == 2 { print $2 }' | sor
 [ "$declared" = "$defined" ] || { diff <(echo "$declared") <(echo "$defined") >&2 || true; fail 'the header (<) and the archive (>) have other functions'; }
 for name in $needed; do case $name in memcpy | memset) ;; *) fail "the archive needs $name" ;; esac; done
 
-# The shared library, the header and the file for pkg-config.
-"$cc" -shared -Wl,-soname,libtromvask.so.0 -Wl,-z,defs -Wl,-z,noexecstack -Wl,--whole-archive "$out/new/libtromvask.a" -Wl,--no-whole-archive \
-    -o "$out/new/libtromvask.so"
+# The shared library, which finds memcpy and memset in the program's own C library; the header; the file for pkg-config.
+$cc -shared -nostdlib -Wl,-soname,libtromvask.so.0 -Wl,-z,noexecstack -Wl,--whole-archive "$out/new/libtromvask.a" -Wl,--no-whole-archive \
+    -o "$out/new/libtromvask.so" || fail "$cc did not link the shared library"
 version=$(sed -n 's/^#define TROMVASK_VERSION_[A-Z]* \([0-9]*\)$/\1/p' "$header" | tr '\n' '.')
 cat >"$out/new/tromvask.pc" <<END
 prefix=\${pcfiledir}

@@ -24,20 +24,20 @@ tried() {
     ${RUN:-} "$out/$name"
 }
 cc=${CC:-cc}
-tried c99-archive "$cc" -std=c99 $strict -I"$out" -I"$lib/include" "$here/try.c" "$lib/libtromvask.a"
-tried c17-static-name "$cc" -std=c17 $strict -I"$out" -I"$lib/include" "$here/try.c" -L"$lib" -Wl,-Bstatic -ltromvask -Wl,-Bdynamic
-tried c99-shared "$cc" -std=c99 $strict -I"$out" -I"$lib/include" "$here/try.c" -L"$lib" -ltromvask -Wl,-rpath,"$lib"
-cxx=${CXX:-$([ -n "${CC:-}" ] || command -v c++ || true)}
+tried c99-archive $cc -std=c99 $strict -I"$out" -I"$lib/include" "$here/try.c" "$lib/libtromvask.a"
+tried c17-static-name $cc -std=c17 $strict -I"$out" -I"$lib/include" "$here/try.c" -L"$lib" -Wl,-Bstatic -ltromvask -Wl,-Bdynamic
+tried c99-shared $cc -std=c99 $strict -I"$out" -I"$lib/include" "$here/try.c" -L"$lib" -ltromvask -Wl,-rpath,"$lib"
+cxx=${CXX:-$([ "$cc" != cc ] || command -v c++ || true)}
 if [ -n "$cxx" ]; then
-    tried cxx-archive "$cxx" -x c++ $strict -I"$out" -I"$lib/include" "$here/try.c" -x none "$lib/libtromvask.a"
-    tried cxx-shared "$cxx" -x c++ -std=c++11 $strict -I"$out" -I"$lib/include" "$here/try.c" -x none -L"$lib" -ltromvask -Wl,-rpath,"$lib"
+    tried cxx-archive $cxx -x c++ $strict -I"$out" -I"$lib/include" "$here/try.c" -x none "$lib/libtromvask.a"
+    tried cxx-shared $cxx -x c++ -std=c++11 $strict -I"$out" -I"$lib/include" "$here/try.c" -x none -L"$lib" -ltromvask -Wl,-rpath,"$lib"
 fi
 # pkg-config finds all by where its file lies: here, and in a copy at another place.
 if command -v pkg-config >/dev/null; then
     cp -r "$lib/include" "$lib"/libtromvask.* "$lib/tromvask.pc" "$out/moved/"
     for at in "$lib" "$out/moved"; do
         export PKG_CONFIG_PATH=$at
-        tried "pkg-config-${at##*/}" "$cc" -std=c99 $strict -I"$out" $(pkg-config --cflags tromvask) "$here/try.c" $(pkg-config --libs tromvask) -Wl,-rpath,"$at"
+        tried "pkg-config-${at##*/}" $cc -std=c99 $strict -I"$out" $(pkg-config --cflags tromvask) "$here/try.c" $(pkg-config --libs tromvask) -Wl,-rpath,"$at"
         [ "$(pkg-config --modversion tromvask)" = "$(sed -n 's/^#define TROMVASK_VERSION_[A-Z]* //p' "$lib/include/tromvask.h" | paste -sd.)" ]
     done
 fi
