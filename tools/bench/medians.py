@@ -7,11 +7,11 @@ for path in sys.argv[1:]:
     with open(path) as file:
         rows = [[cell.strip() for cell in line.split("|")[1:-1]] for line in file if line.startswith("|")]
     names, cells = rows[0], rows[2:]
-    # A ratio's column is named for the call of the columns before it, and for C where C is timed.
+    # A ratio's column is named for the call of the columns before it, and for the reference C where that is timed.
     ratios, call = {}, ""
     for place, name in enumerate(names):
         if ":" in name:
-            call = name.split(":")[0] + (", C" if name.endswith(" C") else "")
+            call = name.split(":")[0] + (", reference" if name.endswith(" reference") else "")
         if name == "ratio":
             ratios[call] = place
     runs.append({(row[0], row[1]): {call: float(row[place]) for call, place in ratios.items()} for row in cells})

@@ -11,11 +11,12 @@ from=$(bash "$root/tools/oracle/source.sh")
 repo=$out/repo
 rm -rf "$repo/crates"
 mkdir -p "$repo/crates/leaves/src"
-for crate in wrap lms scale trial; do
+for crate in $(bash "$root/tools/library/below.sh" lms scale trial); do
     cp -r "$root/crates/$crate" "$repo/crates/"
-done
+    grep "^$crate:" "$root/crates.txt"
+done >"$repo/crates.txt"
+echo 'leaves: lms scale trial' >>"$repo/crates.txt"
 cp "$here/leaves.rt.txt" "$repo/crates/leaves/src/lib.rt"
-printf '%s\n' 'wrap:' 'lms: wrap' 'scale: wrap' 'trial: wrap lms scale' 'leaves: lms scale trial' >"$repo/crates.txt"
 (cd "$repo" && rt staticlib leaves) >"$out/rt.log" 2>&1 || { cat "$out/rt.log" >&2; exit 1; }
 
 # The Rust side: the unchanged source, with a module after it that lends out its private functions.

@@ -11,11 +11,12 @@ from=$(bash "$root/tools/oracle/source.sh")
 repo=$out/repo
 rm -rf "$repo/crates"
 mkdir -p "$repo/crates/slices/src"
-for crate in wrap word lms ahead scale trial header slice search; do
+for crate in $(bash "$root/tools/library/below.sh" lms scale search); do
     cp -r "$root/crates/$crate" "$repo/crates/"
-done
+    grep "^$crate:" "$root/crates.txt"
+done >"$repo/crates.txt"
+echo 'slices: lms scale search' >>"$repo/crates.txt"
 cp "$here/slices.rt.txt" "$repo/crates/slices/src/lib.rt"
-{ grep -E '^(wrap|word|lms|ahead|scale|trial|header|slice|search):' "$root/crates.txt"; echo 'slices: lms scale search'; } >"$repo/crates.txt"
 (cd "$repo" && rt staticlib slices) >"$out/rt.log" 2>&1 || { cat "$out/rt.log" >&2; exit 1; }
 
 # The Rust side: the unchanged source, with a module after it that lends out its private search.
