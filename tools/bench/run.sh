@@ -22,7 +22,7 @@ done >"$repo/crates.txt"
 echo 'blocks: state decoder' >>"$repo/crates.txt"
 cp "$here/blocks.rt.txt" "$repo/crates/blocks/src/lib.rt"
 cp "$here/blocks_decode.antt.txt" "$repo/crates/blocks/proofs/blocks_decode/Proof.antt"
-cp -r "$root/target/obj" "$root/target/rlib" "$root/target/stamp" "$repo/target/"
+cp -r "$root/target/rlib" "$root/target/stamp" "$repo/target/"
 (cd "$repo" && rt staticlib blocks) >"$out/blocks.log" 2>&1 || { cat "$out/blocks.log" >&2; exit 1; }
 
 rustc --edition 2021 -C opt-level=3 --crate-type rlib --crate-name qoaudio "$from" -o "$out/libqoaudio.rlib"

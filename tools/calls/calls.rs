@@ -92,8 +92,11 @@ impl Tally {
 
 // ---- decoders
 
-/// A room: none, one, beside a slice or a group, or any.
+/// A room: none, one, beside a slice or a group, or any; now and then a large one.
 fn room(r: &mut Random) -> usize {
+    if below(r, 50) == 0 {
+        return below(r, 20000);
+    }
     match below(r, 4) {
         0 => [0, 1, 2, 19, 20, 21, 39, 40, 41, 159, 160, 161][below(r, 12)],
         1 => 20 * (1 + below(r, 8)) * (1 + below(r, 3)),
@@ -185,11 +188,16 @@ fn calls_in_a_row(kind: &str, bytes: &[u8], r: &mut Random, tally: &mut Tally) {
     }
 }
 
-/// Bytes of the kinds of tools/compare that are not too long, so many.
+/// Bytes of the kinds of tools/compare, so many; the long ones seldom.
 fn each_bytes(r: &mut Random, count: usize, sink: &mut dyn FnMut(&str, &[u8], &mut Random)) {
     let mut made = 0;
     while made < count {
-        let (name, make) = inputs::DECODE[below(r, 10)];
+        let kind = match below(r, 1000) {
+            0 => 11,
+            1..=3 => 10,
+            _ => below(r, 10),
+        };
+        let (name, make) = inputs::DECODE[kind];
         let seed = ((r.next() as u64) << 32) | r.next() as u64;
         let mut choice = Random(seed ^ 0x5eed);
         // of the kinds that give many inputs at once, a few
