@@ -421,9 +421,6 @@ fn answer_hex(line: &[u8], ask: &mut [u8]) -> bool {
     if n == 0 {
         return stdio::write_out(b"not hex\n");
     }
-    if !hex::is_hex(line) {
-        return stdio::write_out(b"not hex\n");
-    }
     if ask.len() < n {
         return stdio::write_out(b"line too long\n");
     }
@@ -446,6 +443,9 @@ fn reply(line: &[u8]) -> bool {
             return false;
         }
         return stdio::write_out(b"\n");
+    }
+    if !hex::is_hex(line) {
+        return stdio::write_out(b"not hex\n");
     }
     let mut ask = [0u8; 65536];
     answer_hex(line, &mut ask)
@@ -535,8 +535,12 @@ fn run(chunk: &mut [u8], line: &mut [u8]) {
 }
 
 // A line is at most one byte shorter than its place: a full place says that a line is too long.
+fn run_on(chunk: &mut [u8]) {
+    let mut line = [0u8; 131073];
+    run(chunk, &mut line);
+}
+
 fn main() {
     let mut chunk = [0u8; 65536];
-    let mut line = [0u8; 131073];
-    run(&mut chunk, &mut line);
+    run_on(&mut chunk);
 }
