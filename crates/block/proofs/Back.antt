@@ -72,8 +72,8 @@ predictor-back lms block p f read =
     let long = length-four (lms .history) in
     let histories = four-back (lms .history) block p (f .history-four) (λ i l. read (4 * i) (omega arith) ∙ be-append 4 h w (4 * i) (omega arith) ∙ four-at (lms .history) i l) in
     let weights = four-back (lms .weights) block (p + 16) (f .weights-four) (λ i l.
-      ap (be 4 block) (add-assoc p 16 (4 * i)) ∙ read (16 + 4 * i) (omega arith)
-      ∙ ap (λ (n : ℕ). be 4 (h ++ w) (n + 4 * i)) (sym long) ∙ be-past 4 h w (4 * i) ∙ four-at (lms .weights) i l) in
+    ap (be 4 block) (add-assoc p 16 (4 * i)) ∙ read (16 + 4 * i) (omega arith)
+    ∙ ap (λ (n : ℕ). be 4 (h ++ w) (n + 4 * i)) (sym long) ∙ be-past 4 h w (4 * i) ∙ four-at (lms .weights) i l) in
     λ i. record { history = histories i; weights = weights i }
 
 predictors-back : (states : List QoaLms) (block : List ℕ) (p c : ℕ) → length states ≡ c → c ≤ maxChannels → ((j : ℕ) → j < c → Predictor (lmsOf states j))
@@ -82,8 +82,8 @@ unfolding predictorsIn predictorsBytes
 predictors-back states block p c long few each read =
     table-ext c (λ j. predictorIn block (p + 32 * j)) (lmsOf states)
     (λ j l. predictor-back (lmsOf states j) block (p + 32 * j) (each j l) (λ q within.
-      ap (be 4 block) (add-assoc p (32 * j) q) ∙ read (32 * j + q) (omega arith)
-      ∙ inside 32 (λ k. predictorBytes (lmsOf states k)) (λ k. length-predictor (lmsOf states k)) 4 q within maxChannels j (omega arith)))
+    ap (be 4 block) (add-assoc p (32 * j) q) ∙ read (32 * j + q) (omega arith)
+    ∙ inside 32 (λ k. predictorBytes (lmsOf states k)) (λ k. length-predictor (lmsOf states k)) 4 q within maxChannels j (omega arith)))
     ∙ table-of c states noLms long
 
 -- ---- an encoder's state

@@ -52,6 +52,7 @@ held-sample d i = by (ltb i (d .next)) (ltb i (d .end)) refl refl
   where
     shown : List ℤ
     shown = table (d .end - d .next) (λ k. getD (d .pending) (d .next + k) (pos 0))
+
     by : (a b : Bool) → ltb i (d .next) ≡ a → ltb i (d .end) ≡ b → cond a (pos 0) (cond b (getD (d .pending) i (pos 0)) (pos 0)) ≡ cond a (pos 0) (getD shown (i - d .next) (pos 0))
     by true b e f = refl
     by false true e f =

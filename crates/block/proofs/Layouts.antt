@@ -45,10 +45,12 @@ unfolding fourBytes laid
 four-over out p xs room =
     let f : ℕ → List ℕ = λ i. bytesOf 4 (low32 (at xs i)) in
     let long : (n : ℕ) → length (laid n f) ≡ n * 4 = λ n. length-laid 4 n f (λ i. length-bytes 4 (low32 (at xs i))) in
-    rw (over-put out p 4 (low32 (at xs 0)) (omega arith),
-    then-number out p (laid 1 f) (p + 4) (omega (arith, long 1)) 4 (low32 (at xs 1)) (omega arith),
-    then-number out p (laid 2 f) (p + 8) (omega (arith, long 2)) 4 (low32 (at xs 2)) (omega arith),
-    then-number out p (laid 3 f) (p + 12) (omega (arith, long 3)) 4 (low32 (at xs 3)) (omega arith))
+    rw (
+      over-put out p 4 (low32 (at xs 0)) (omega arith),
+      then-number out p (laid 1 f) (p + 4) (omega (arith, long 1)) 4 (low32 (at xs 1)) (omega arith),
+      then-number out p (laid 2 f) (p + 8) (omega (arith, long 2)) 4 (low32 (at xs 2)) (omega arith),
+      then-number out p (laid 3 f) (p + 12) (omega (arith, long 3)) 4 (low32 (at xs 3)) (omega arith),
+    )
 
 -- ---- the mode
 
@@ -61,10 +63,12 @@ fixed-over out m total c rate room =
     let d : List ℕ = b ++ bytesOf 1 c in
     let lb : length b ≡ 5 = omega (arith, length-append a (bytesOf 4 total), length-bytes 4 total) in
     let ld : length d ≡ 6 = omega (arith, length-append b (bytesOf 1 c), length-bytes 1 c, lb) in
-    rw (over-put out 0 1 m (omega arith),
-    then-number out 0 a 1 (omega arith) 4 total (omega arith),
-    then-number out 0 b 5 (omega arith) 1 c (omega arith),
-    then-number out 0 d 6 (omega arith) 4 rate (omega arith))
+    rw (
+      over-put out 0 1 m (omega arith),
+      then-number out 0 a 1 (omega arith) 4 total (omega arith),
+      then-number out 0 b 5 (omega arith) 1 c (omega arith),
+      then-number out 0 d 6 (omega arith) 4 rate (omega arith),
+    )
     (ap (overlaid out 0) (simp append-assoc))
 
 pub length-fixed : (m total c rate : ℕ) → length (fixedBytes m total c rate) ≡ 10
@@ -86,9 +90,11 @@ frame-over out f room =
     let la : length a ≡ 1 = length-bytes 1 (f .channels) in
     let b : List ℕ = a ++ bytesOf 4 (f .rate) in
     let lb : length b ≡ 5 = omega (arith, length-append a (bytesOf 4 (f .rate)), length-bytes 4 (f .rate)) in
-    rw (over-put out 18 1 (f .channels) (omega arith),
-    then-number out 18 a 19 (omega arith) 4 (f .rate) (omega arith),
-    then-number out 18 b 23 (omega arith) 2 (f .samples) (omega arith))
+    rw (
+      over-put out 18 1 (f .channels) (omega arith),
+      then-number out 18 a 19 (omega arith) 4 (f .rate) (omega arith),
+      then-number out 18 b 23 (omega arith) 2 (f .samples) (omega arith),
+    )
     (ap (overlaid out 18) (simp append-assoc))
 
 pub length-frame : (f : FrameFacts) → length (frameBytes f) ≡ 7
@@ -108,10 +114,12 @@ rest-over out remaining next end given room =
     let la : length a ≡ 2 = length-bytes 2 remaining in
     let lb : length b ≡ 4 = omega (arith, length-append a (bytesOf 2 next), length-bytes 2 next) in
     let ld : length d ≡ 6 = omega (arith, length-append b (bytesOf 2 end), length-bytes 2 end) in
-    rw (over-put out 25 2 remaining (omega arith),
-    then-number out 25 a 27 (omega arith) 2 next (omega arith),
-    then-number out 25 b 29 (omega arith) 2 end (omega arith),
-    then-number out 25 d 31 (omega arith) 1 (cond given 1 0) (omega arith))
+    rw (
+      over-put out 25 2 remaining (omega arith),
+      then-number out 25 a 27 (omega arith) 2 next (omega arith),
+      then-number out 25 b 29 (omega arith) 2 end (omega arith),
+      then-number out 25 d 31 (omega arith) 1 (cond given 1 0) (omega arith),
+    )
     (ap (overlaid out 25) (simp append-assoc))
 
 pub length-rest : (remaining next end : ℕ) (given : Bool) → length (restBytes remaining next end given) ≡ 7
@@ -147,12 +155,14 @@ decoder-over out v room =
     let lc : length c ≡ 25 = omega (arith, length-append b (frameBytes (v .frame)), length-frame (v .frame)) in
     let ld : length d ≡ 32 = omega (arith, length-append c rest, length-rest (v .remaining) (v .next) (v .end) (v .given)) in
     let le : length e ≡ 32 + 32 * maxChannels = omega (arith, length-append d (predictorsBytes (v .lms)), length-predictors (v .lms)) in
-    rw (then-number out 0 a 10 (omega arith) 8 (v .at) (omega arith),
-    over-then out 0 18 b (frameBytes (v .frame)) (omega arith) (omega arith),
-    over-then out 0 25 c rest (omega arith) (omega arith),
-    over-then out 0 32 d (predictorsBytes (v .lms)) (omega arith) (omega arith),
-    over-then out 0 (32 + 32 * maxChannels) e (pendingBytes v) (omega arith) (omega arith),
-    over-start)
+    rw (
+      then-number out 0 a 10 (omega arith) 8 (v .at) (omega arith),
+      over-then out 0 18 b (frameBytes (v .frame)) (omega arith) (omega arith),
+      over-then out 0 25 c rest (omega arith) (omega arith),
+      over-then out 0 32 d (predictorsBytes (v .lms)) (omega arith) (omega arith),
+      over-then out 0 (32 + 32 * maxChannels) e (pendingBytes v) (omega arith) (omega arith),
+      over-start,
+    )
     (simp append-assoc)
 
 regroup : (a b c d : List ℕ) → ((a ++ b) ++ c) ++ d ≡ a ++ (b ++ (c ++ d))
@@ -168,11 +178,13 @@ encoder-over out v room =
     let c : List ℕ = b ++ bytesOf 4 (v .total) in
     let lb : length b ≡ 5 = omega (arith, length-append a (bytesOf 4 (v .rate)), length-bytes 4 (v .rate)) in
     let lc : length c ≡ 9 = omega (arith, length-append b (bytesOf 4 (v .total)), length-bytes 4 (v .total)) in
-    rw (over-put out 0 1 (v .channels) (omega arith),
-    then-number out 0 a 1 (omega arith) 4 (v .rate) (omega arith),
-    then-number out 0 b 5 (omega arith) 4 (v .total) (omega arith),
-    over-then out 0 9 c (predictorsBytes (v .lms)) (omega arith) (omega arith),
-    over-start)
+    rw (
+      over-put out 0 1 (v .channels) (omega arith),
+      then-number out 0 a 1 (omega arith) 4 (v .rate) (omega arith),
+      then-number out 0 b 5 (omega arith) 4 (v .total) (omega arith),
+      over-then out 0 9 c (predictorsBytes (v .lms)) (omega arith) (omega arith),
+      over-start,
+    )
     (ap (onto out) (regroup a (bytesOf 4 (v .rate)) (bytesOf 4 (v .total)) (predictorsBytes (v .lms))))
 
 -- as long as a block is
@@ -181,20 +193,31 @@ unfolding decoderBytes
 length-decoder v =
     let rest : List ℕ = restBytes (v .remaining) (v .next) (v .end) (v .given) in
     let tail : List ℕ = predictorsBytes (v .lms) ++ pendingBytes v in
-    omega (arith,
-    length-append (modeBytes (v .mode)) (bytesOf 8 (v .at) ++ (frameBytes (v .frame) ++ (rest ++ tail))),
-    length-append (bytesOf 8 (v .at)) (frameBytes (v .frame) ++ (rest ++ tail)),
-    length-append (frameBytes (v .frame)) (rest ++ tail),
-    length-append rest tail,
-    length-append (predictorsBytes (v .lms)) (pendingBytes v),
-    length-mode (v .mode), length-bytes 8 (v .at), length-frame (v .frame), length-rest (v .remaining) (v .next) (v .end) (v .given), length-predictors (v .lms), length-pending v)
+    omega (
+      arith,
+      length-append (modeBytes (v .mode)) (bytesOf 8 (v .at) ++ (frameBytes (v .frame) ++ (rest ++ tail))),
+      length-append (bytesOf 8 (v .at)) (frameBytes (v .frame) ++ (rest ++ tail)),
+      length-append (frameBytes (v .frame)) (rest ++ tail),
+      length-append rest tail,
+      length-append (predictorsBytes (v .lms)) (pendingBytes v),
+      length-mode (v .mode),
+      length-bytes 8 (v .at),
+      length-frame (v .frame),
+      length-rest (v .remaining) (v .next) (v .end) (v .given),
+      length-predictors (v .lms),
+      length-pending v,
+    )
 
 pub length-encoder : (v : E.View) → length (encoderBytes v) ≡ encoderSize
 unfolding encoderBytes
 length-encoder v =
-    omega (arith,
-    length-bytes 1 (v .channels),
-    length-append (bytesOf 1 (v .channels)) (bytesOf 4 (v .rate) ++ (bytesOf 4 (v .total) ++ predictorsBytes (v .lms))),
-    length-append (bytesOf 4 (v .rate)) (bytesOf 4 (v .total) ++ predictorsBytes (v .lms)),
-    length-append (bytesOf 4 (v .total)) (predictorsBytes (v .lms)),
-    length-bytes 4 (v .rate), length-bytes 4 (v .total), length-predictors (v .lms))
+    omega (
+      arith,
+      length-bytes 1 (v .channels),
+      length-append (bytesOf 1 (v .channels)) (bytesOf 4 (v .rate) ++ (bytesOf 4 (v .total) ++ predictorsBytes (v .lms))),
+      length-append (bytesOf 4 (v .rate)) (bytesOf 4 (v .total) ++ predictorsBytes (v .lms)),
+      length-append (bytesOf 4 (v .total)) (predictorsBytes (v .lms)),
+      length-bytes 4 (v .rate),
+      length-bytes 4 (v .total),
+      length-predictors (v .lms),
+    )

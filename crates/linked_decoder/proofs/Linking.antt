@@ -46,10 +46,10 @@ unfolding readableDecoder decoderIn frameIn
 bad-state block bytes is e =
     let places = one-fails (isDecoder block) (leb (byteIn block 18) maxChannels && leb (be16 block 29) (20 * maxChannels)) e is in
     fails _ (λ t.
-      let g = good-facts (decoderIn block) bytes t in
-      either-fails (leb (byteIn block 18) maxChannels) (leb (be16 block 29) (20 * maxChannels)) _ places
-      (λ many. let m = leb-false (byteIn block 18) maxChannels many in let few = g .few-channels in absurd (omega arith))
-      (λ far. let m = leb-false (be16 block 29) (20 * maxChannels) far in let few = g .few-channels in let held = g .one-group in absurd (omega arith)))
+    let g = good-facts (decoderIn block) bytes t in
+    either-fails (leb (byteIn block 18) maxChannels) (leb (be16 block 29) (20 * maxChannels)) _ places
+    (λ many. let m = leb-false (byteIn block 18) maxChannels many in let few = g .few-channels in absurd (omega arith))
+    (λ far. let m = leb-false (be16 block 29) (20 * maxChannels) far in let few = g .few-channels in let held = g .one-group in absurd (omega arith)))
 
 pub unread : (block : List ℕ) (bytes : ℕ) (rest : List Rule) → readableDecoder block ≡ false → firstOf (blocked block ((not (goodState (decoderIn block) bytes) gives 8) ∷ rest)) ≡ some 8
 unfolding firstOf

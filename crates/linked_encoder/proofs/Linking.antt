@@ -52,9 +52,9 @@ file-refuses v samples out = record { by-eight = λ e. rw (bad-first v _ e); unt
 bad-state : (block : List ℕ) → isEncoder block ≡ true → readableEncoder block ≡ false → goodEncoder (encoderIn block) ≡ false
 unfolding readableEncoder encoderIn
 bad-state block is e = fails _ (λ t.
-  let g = good-facts (encoderIn block) t in
-  let many = leb-false (byteIn block 0) maxChannels (rw is at e) in
-  absurd (omega arith))
+    let g = good-facts (encoderIn block) t in
+    let many = leb-false (byteIn block 0) maxChannels (rw is at e) in
+    absurd (omega arith))
 
 module _ (block : List ℕ) (told : Told) (memory out : List ℕ) (refusing : Refusing (encoderIn block) told memory out) (e : readableEncoder block ≡ false) where
   unread-told : toldBy block told ≡ refuses 8

@@ -65,7 +65,10 @@ fn keep(state: &mut [u8], answer: EncodeAnswer, after: QoaEncoder)
     match answer {
         EncodeAnswer::Written(_) => block::write_encoder(state, after),
         EncodeAnswer::Refused(_) => {}
-        EncodeAnswer::WeightRange { count: _, channel: _ } => {}
+        EncodeAnswer::WeightRange {
+            count: _,
+            channel: _,
+        } => {}
     }
 }
 

@@ -89,8 +89,8 @@ returns-3 c =
     let done = c .before .before .before .before .before .before .before .next-frame in
     let found = accepted _ _ _ (sym (ap toldFrame (c .before .before .before .before .enum-told .given .1)) ∙ done .ensures .told) in
     rw (← viewed (c .before .before .before .before .before .before .before .before .before)) (
-      linked-done (args .state .now) _ _ _ _ _ (read-rules (args .state .now) _ (yes (c .before .before .before .before .before .before .before .before .before)) ∙ found .0) (ap (λ (f : Found). pos (foundCode f)) (sym (found .1)))
-          ((c .before .before .write-decoder) .ensures ∙ ap (λ (v : View). onto (args .state .now) (decoderBytes v)) (leaves _ _ _ _ (found .0) (done .ensures .left)))
+    linked-done (args .state .now) _ _ _ _ _ (read-rules (args .state .now) _ (yes (c .before .before .before .before .before .before .before .before .before)) ∙ found .0) (ap (λ (f : Found). pos (foundCode f)) (sym (found .1)))
+    ((c .before .before .write-decoder) .ensures ∙ ap (λ (v : View). onto (args .state .now) (decoderBytes v)) (leaves _ _ _ _ (found .0) (done .ensures .left)))
     )
 
 same-length-4 : tie.Need-same-length-4
@@ -103,8 +103,8 @@ returns-4 c =
     let found = accepted _ _ _ (sym (ap toldFrame (c .before .before .before .before .before .before .before .answer2 .given .1)) ∙ done .ensures .told) in
     let code = c .count .ensures ∙ ap pos (c .before .frame-code .ensures .0) ∙ ap (λ (f : Found). pos (foundCode f)) (sym (found .1)) in
     rw (← viewed (c .before .before .before .before .before .before .before .before .before .before .before .before)) (
-      linked-done (args .state .now) _ _ _ _ _ (read-rules (args .state .now) _ (yes (c .before .before .before .before .before .before .before .before .before .before .before .before)) ∙ found .0) (returned w64 (c .count .result) (c .count .ok) code)
-          ((c .before .before .before .before .write-decoder2) .ensures ∙ ap (λ (v : View). onto (args .state .now) (decoderBytes v)) (leaves _ _ _ _ (found .0) (done .ensures .left)))
+    linked-done (args .state .now) _ _ _ _ _ (read-rules (args .state .now) _ (yes (c .before .before .before .before .before .before .before .before .before .before .before .before)) ∙ found .0) (returned w64 (c .count .result) (c .count .ok) code)
+    ((c .before .before .before .before .write-decoder2) .ensures ∙ ap (λ (v : View). onto (args .state .now) (decoderBytes v)) (leaves _ _ _ _ (found .0) (done .ensures .left)))
     )
 
 pub qoa-decoder-next-frame-spec : {M : Type 1} → statement M

@@ -114,8 +114,8 @@ returns-3 c =
     let done = c .before .before .before .before .before .before .before .next-item in
     let found = accepted _ _ _ (sym (ap toldItem (c .before .before .before .before .enum-told .given .1)) ∙ done .ensures .told) in
     rw (← viewed (c .before .before .before .before .before .before .before .before .before)) (
-      linked-done (args .state .now) _ _ _ _ _ (read-rules (args .state .now) _ (yes (c .before .before .before .before .before .before .before .before .before)) ∙ found .0) (ap (λ (x : Item). pos (itemCode x)) (sym (found .1)))
-          ((c .before .before .write-decoder) .ensures ∙ ap (λ (v : View). onto (args .state .now) (decoderBytes v)) (leaves _ _ _ _ (found .0) (done .ensures .left)))
+    linked-done (args .state .now) _ _ _ _ _ (read-rules (args .state .now) _ (yes (c .before .before .before .before .before .before .before .before .before)) ∙ found .0) (ap (λ (x : Item). pos (itemCode x)) (sym (found .1)))
+    ((c .before .before .write-decoder) .ensures ∙ ap (λ (v : View). onto (args .state .now) (decoderBytes v)) (leaves _ _ _ _ (found .0) (done .ensures .left)))
     )
 
 same-length-4 : tie.Need-same-length-4
@@ -128,8 +128,8 @@ returns-4 c =
     let found = accepted _ _ _ (sym (ap toldItem (c .before .before .before .before .before .before .before .item2 .given .1)) ∙ done .ensures .told) in
     let code = c .count .ensures ∙ ap (λ (n : ℕ). pos (2 ^ 60 + n)) (c .before .frame-code .ensures .0) ∙ ap (λ (x : Item). pos (itemCode x)) (sym (found .1)) in
     rw (← viewed (c .before .before .before .before .before .before .before .before .before .before .before .before)) (
-      linked-done (args .state .now) _ _ _ _ _ (read-rules (args .state .now) _ (yes (c .before .before .before .before .before .before .before .before .before .before .before .before)) ∙ found .0) (returned w64 (c .count .result) (c .count .ok) code)
-          ((c .before .before .before .before .write-decoder2) .ensures ∙ ap (λ (v : View). onto (args .state .now) (decoderBytes v)) (leaves _ _ _ _ (found .0) (done .ensures .left)))
+    linked-done (args .state .now) _ _ _ _ _ (read-rules (args .state .now) _ (yes (c .before .before .before .before .before .before .before .before .before .before .before .before)) ∙ found .0) (returned w64 (c .count .result) (c .count .ok) code)
+    ((c .before .before .before .before .write-decoder2) .ensures ∙ ap (λ (v : View). onto (args .state .now) (decoderBytes v)) (leaves _ _ _ _ (found .0) (done .ensures .left)))
     )
 
 same-length-5 : tie.Need-same-length-5
@@ -142,8 +142,8 @@ returns-5 c =
     let found = accepted _ _ _ (sym (ap toldItem (c .before .before .before .before .before .before .before .item3 .given .1)) ∙ done .ensures .told) in
     let code = c .count2 .ensures ∙ ap (λ (n : ℕ). pos (2 ^ 61 + n)) (c .before .pattern16 .ensures ∙ ap low16 (returned w16 _ (c .before .before .before .before .before .before .known-told3 .given .0 .1) refl)) ∙ ap (λ (x : Item). pos (itemCode x)) (sym (found .1)) in
     rw (← viewed (c .before .before .before .before .before .before .before .before .before .before .before .before)) (
-      linked-done (args .state .now) _ _ _ _ _ (read-rules (args .state .now) _ (yes (c .before .before .before .before .before .before .before .before .before .before .before .before)) ∙ found .0) (returned w64 (c .count2 .result) (c .count2 .ok) code)
-          ((c .before .before .before .before .write-decoder3) .ensures ∙ ap (λ (v : View). onto (args .state .now) (decoderBytes v)) (leaves _ _ _ _ (found .0) (done .ensures .left)))
+    linked-done (args .state .now) _ _ _ _ _ (read-rules (args .state .now) _ (yes (c .before .before .before .before .before .before .before .before .before .before .before .before)) ∙ found .0) (returned w64 (c .count2 .result) (c .count2 .ok) code)
+    ((c .before .before .before .before .write-decoder3) .ensures ∙ ap (λ (v : View). onto (args .state .now) (decoderBytes v)) (leaves _ _ _ _ (found .0) (done .ensures .left)))
     )
 
 pub qoa-decoder-next-item-spec : {M : Type 1} → statement M
