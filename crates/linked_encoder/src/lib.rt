@@ -54,7 +54,8 @@ pub extern "C" fn qoa_encoder_header(state: &[u8], out: &mut [u8]) -> i64
         return minus(Refusal::BadState);
     }
     let held = shown.state;
-    encoded(encoder::write_header(held, out))
+    let told = encoder::write_header(held, out);
+    encoded(told)
 }
 
 // Stores the state after an accepted call.
