@@ -7,7 +7,7 @@ use lib.Dec.{lit<}
 use lib.IntN.{ℤ, natAbs, negℤ, pos, _+ℤ_}
 use lib.Signed.{ltZ, shrZ}
 use Rattle.wrap.proofs.Integers.{abs-neg, abs-shift}
-use Rattle.ahead.specs.Loop.{gained, gainsOf, movedBy, SmallGains}
+use Rattle.ahead.specs.Parts.{gained, gainsOf, movedBy, SmallGains}
 use Rattle.lms.specs.Predictor.{at, nextWeight, pick, stepped, updated}
 use Rattle.lms.specs.declared.QoaLms.{QoaLms}
 

@@ -7,8 +7,9 @@ ghost use mathlib.Core.Path.{_≡_};
 ghost use Prim.Native.Nat.{_≤_, _^_};
 ghost use lib.IntN.{pos, negsuc, natAbs, _+ℤ_};
 ghost use lib.Signed.{ltZ};
-ghost use Rattle.lms.specs.Predictor.{clamp16, pick, predicted, WeightsWithin};
-ghost use Rattle.ahead.specs.Loop.{aheadOf, gained, gainsOf, movedBy, sideOf, SmallGains};
+ghost use Rattle.lms.specs.Predictor.{clamp16, pick, predicted};
+ghost use Rattle.ahead.specs.Parts.{aheadOf, gained, gainsOf, movedBy, sideOf, SmallGains};
+ghost use Rattle.lms.specs.Parts.{WeightsWithin};
 
 // The predictor of a decoding loop, with the sum of its three older products, which is known before the newest sample is.
 pub struct Ahead {

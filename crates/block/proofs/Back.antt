@@ -20,14 +20,14 @@ use Rattle.word.proofs.BytesLaws.{be-append, be-of, be-past, byte-at, length-by
 use Rattle.word.proofs.Tables.{table-ext, table-of}
 use Rattle.lms.specs.Predictor.{at}
 use Rattle.lms.specs.declared.QoaLms.{QoaLms}
-use Rattle.header.specs.Format.{maxChannels}
-use Rattle.header.specs.Predictor.{lmsOf, noLms}
+use Rattle.format.specs.Format.{maxChannels}
+use Rattle.format.specs.Predictor.{lmsOf, noLms}
 use Rattle.state.specs.View.{View}
 use Rattle.state.specs.declared.ProcessingMode.{ProcessingMode}
 use Rattle.state.specs.declared.ProcessingMode.the-variants.{FixedSamples, Streaming}
 use Rattle.encoder.specs.Encoder as E
 use Rattle.body.specs.Laid.{laid}
-use Rattle.block.specs.DecoderBlock.{byteIn, decoderBytes, decoderIn, frameBytes, frameIn, modeBytes, modeIn, pendingAt, pendingBytes, restBytes, sampleIn}
+use Rattle.block.specs.DecoderBlock.{byteIn, decoderBytes, decoderIn, factsBytes, frameIn, modeBytes, modeIn, pendingAt, pendingBytes, restBytes, sampleIn}
 use Rattle.block.specs.EncoderBlock.{encoderBytes, encoderIn}
 use Rattle.block.specs.Predictors.{fourBytes, fourIn, predictorBytes, predictorIn, predictorsBytes, predictorsIn}
 use Rattle.block.proofs.Fields.{Field, be-one, here, inside, joined, read-field, read-rest, there, widths}
@@ -88,21 +88,21 @@ predictors-back states block p c long few each read =
 
 -- ---- an encoder's state
 
-pub record EncoderHolds (v : E.View) : Type 0 where
+pub record EncoderHolds (v : E.EncoderView) : Type 0 where
   pub few-channels : v .channels ≤ maxChannels
   pub rate-fits : v .rate < 2 ^ 32
   pub total-fits : v .total < 2 ^ 32
   pub each-channel : length (v .lms) ≡ v .channels
   pub predictors : (j : ℕ) → j < v .channels → Predictor (lmsOf (v .lms) j)
 
-encoderFields : E.View → List Field
+encoderFields : E.EncoderView → List Field
 encoderFields v = record { width = 1; value = v .channels } ∷ record { width = 4; value = v .rate } ∷ record { width = 4; value = v .total } ∷ []
 
-encoder-joined : (v : E.View) → encoderBytes v ≡ joined (encoderFields v) (predictorsBytes (v .lms))
+encoder-joined : (v : E.EncoderView) → encoderBytes v ≡ joined (encoderFields v) (predictorsBytes (v .lms))
 unfolding encoderBytes joined encoderFields
 encoder-joined v = refl
 
-pub encoder-back : (v : E.View) → EncoderHolds v → encoderIn (encoderBytes v) ≡ v
+pub encoder-back : (v : E.EncoderView) → EncoderHolds v → encoderIn (encoderBytes v) ≡ v
 unfolding encoderIn encoderFields widths
 encoder-back v holds =
     let rest = predictorsBytes (v .lms) in
@@ -158,7 +158,7 @@ abbrev restOf : View → List ℕ
 restOf v = predictorsBytes (v .lms) ++ pendingBytes v
 
 decoder-joined : (m : ProcessingMode) (v : View) → v .mode ≡ m → decoderBytes v ≡ joined (modeFields m v) (restOf v)
-unfolding decoderBytes modeBytes frameBytes restBytes joined modeFields decoderFields laterFields
+unfolding decoderBytes modeBytes factsBytes restBytes joined modeFields decoderFields laterFields
 decoder-joined Streaming v e = rw e (simp append-assoc)
 decoder-joined (FixedSamples total c rate) v e = rw e (simp append-assoc)
 

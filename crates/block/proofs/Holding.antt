@@ -15,11 +15,11 @@ use Rattle.word.specs.Written.{table, written}
 use Rattle.word.proofs.Tables.{getD-table, length-table, table-ext}
 use Rattle.word.proofs.Writes.{written-at}
 use Rattle.lms.specs.declared.QoaLms.{QoaLms}
-use Rattle.header.specs.Format.{maxChannels}
-use Rattle.header.specs.Predictor.{lmsOf, noLms}
+use Rattle.format.specs.Format.{maxChannels}
+use Rattle.format.specs.Predictor.{lmsOf, noLms}
 use Rattle.body.specs.Laid.{laid}
 use Rattle.body.proofs.Laids.{laid-ext}
-use Rattle.state.specs.Opening.{zeroLms}
+use Rattle.lms.specs.Predictor.{zeroLms}
 use Rattle.state.specs.View.{view}
 use Rattle.state.specs.declared.QoaDecoder.{QoaDecoder}
 use Rattle.block.specs.DecoderBlock.{pendingAt, pendingBytes}

@@ -11,8 +11,8 @@ use Rattle.word.specs.Bytes.{bytesOf, put}
 use Rattle.word.proofs.BytesLaws.{length-bytes}
 use Rattle.lms.specs.Predictor.{at}
 use Rattle.lms.specs.declared.QoaLms.{QoaLms}
-use Rattle.header.specs.Format.{maxChannels}
-use Rattle.header.specs.Predictor.{lmsOf}
+use Rattle.format.specs.Format.{maxChannels}
+use Rattle.format.specs.Predictor.{lmsOf}
 use Rattle.state.specs.View.{View}
 use Rattle.state.specs.declared.FrameFacts.{FrameFacts}
 use Rattle.state.specs.declared.ProcessingMode.{ProcessingMode}
@@ -25,7 +25,7 @@ use Rattle.body.proofs.Laids.{length-laid}
 use Rattle.body.proofs.Overlays.{over-put, over-then}
 use Rattle.encoder.proofs.Heads.{over-start}
 use Rattle.block.specs.Predictors.{fourBytes, predictorBytes, predictorsBytes}
-use Rattle.block.specs.DecoderBlock.{decoderBytes, decoderSize, fixedBytes, frameBytes, modeBytes, pendingAt, pendingBytes, restBytes}
+use Rattle.block.specs.DecoderBlock.{decoderBytes, decoderSize, fixedBytes, factsBytes, modeBytes, pendingAt, pendingBytes, restBytes}
 use Rattle.block.specs.EncoderBlock.{encoderBytes, encoderSize}
 use Rattle.block.proofs.Laying.{then-number}
 
@@ -83,8 +83,8 @@ length-mode (FixedSamples total c rate) = length-fixed 1 total c rate
 -- ---- the frame
 
 pub frame-over : (out : List ℕ) (f : FrameFacts) → 25 ≤ length out
-    → put 2 (put 4 (put 1 out 18 (f .channels)) 19 (f .rate)) 23 (f .samples) ≡ overlaid out 18 (frameBytes f)
-unfolding frameBytes
+    → put 2 (put 4 (put 1 out 18 (f .channels)) 19 (f .rate)) 23 (f .samples) ≡ overlaid out 18 (factsBytes f)
+unfolding factsBytes
 frame-over out f room =
     let a : List ℕ = bytesOf 1 (f .channels) in
     let la : length a ≡ 1 = length-bytes 1 (f .channels) in
@@ -97,8 +97,8 @@ frame-over out f room =
     )
     (ap (overlaid out 18) (simp append-assoc))
 
-pub length-frame : (f : FrameFacts) → length (frameBytes f) ≡ 7
-unfolding frameBytes
+pub length-frame : (f : FrameFacts) → length (factsBytes f) ≡ 7
+unfolding factsBytes
 length-frame f =
     omega (arith, length-bytes 1 (f .channels), length-append (bytesOf 1 (f .channels)) (bytesOf 4 (f .rate) ++ bytesOf 2 (f .samples)), length-append (bytesOf 4 (f .rate)) (bytesOf 2 (f .samples)), length-bytes 4 (f .rate), length-bytes 2 (f .samples))
 
@@ -140,24 +140,24 @@ length-pending v = length-laid 2 (20 * maxChannels) (λ i. bytesOf 2 (low16 (pen
 -- ---- all of it
 
 pub decoder-over : (out : List ℕ) (v : View) → decoderSize ≤ length out
-    → overlaid (overlaid (overlaid (overlaid (put 8 (overlaid out 0 (modeBytes (v .mode))) 10 (v .at)) 18 (frameBytes (v .frame))) 25 (restBytes (v .remaining) (v .next) (v .end) (v .given))) 32 (predictorsBytes (v .lms))) (32 + 32 * maxChannels) (pendingBytes v)
+    → overlaid (overlaid (overlaid (overlaid (put 8 (overlaid out 0 (modeBytes (v .mode))) 10 (v .at)) 18 (factsBytes (v .frame))) 25 (restBytes (v .remaining) (v .next) (v .end) (v .given))) 32 (predictorsBytes (v .lms))) (32 + 32 * maxChannels) (pendingBytes v)
     ≡ onto out (decoderBytes v)
 unfolding decoderBytes
 decoder-over out v room =
     let a : List ℕ = modeBytes (v .mode) in
     let b : List ℕ = a ++ bytesOf 8 (v .at) in
-    let c : List ℕ = b ++ frameBytes (v .frame) in
+    let c : List ℕ = b ++ factsBytes (v .frame) in
     let rest : List ℕ = restBytes (v .remaining) (v .next) (v .end) (v .given) in
     let d : List ℕ = c ++ rest in
     let e : List ℕ = d ++ predictorsBytes (v .lms) in
     let la : length a ≡ 10 = length-mode (v .mode) in
     let lb : length b ≡ 18 = omega (arith, length-append a (bytesOf 8 (v .at)), length-bytes 8 (v .at)) in
-    let lc : length c ≡ 25 = omega (arith, length-append b (frameBytes (v .frame)), length-frame (v .frame)) in
+    let lc : length c ≡ 25 = omega (arith, length-append b (factsBytes (v .frame)), length-frame (v .frame)) in
     let ld : length d ≡ 32 = omega (arith, length-append c rest, length-rest (v .remaining) (v .next) (v .end) (v .given)) in
     let le : length e ≡ 32 + 32 * maxChannels = omega (arith, length-append d (predictorsBytes (v .lms)), length-predictors (v .lms)) in
     rw (
       then-number out 0 a 10 (omega arith) 8 (v .at) (omega arith),
-      over-then out 0 18 b (frameBytes (v .frame)) (omega arith) (omega arith),
+      over-then out 0 18 b (factsBytes (v .frame)) (omega arith) (omega arith),
       over-then out 0 25 c rest (omega arith) (omega arith),
       over-then out 0 32 d (predictorsBytes (v .lms)) (omega arith) (omega arith),
       over-then out 0 (32 + 32 * maxChannels) e (pendingBytes v) (omega arith) (omega arith),
@@ -168,7 +168,7 @@ decoder-over out v room =
 regroup : (a b c d : List ℕ) → ((a ++ b) ++ c) ++ d ≡ a ++ (b ++ (c ++ d))
 regroup a b c d = simp append-assoc
 
-pub encoder-over : (out : List ℕ) (v : E.View) → encoderSize ≤ length out
+pub encoder-over : (out : List ℕ) (v : E.EncoderView) → encoderSize ≤ length out
     → overlaid (put 4 (put 4 (put 1 out 0 (v .channels)) 1 (v .rate)) 5 (v .total)) 9 (predictorsBytes (v .lms)) ≡ onto out (encoderBytes v)
 unfolding encoderBytes
 encoder-over out v room =
@@ -195,9 +195,9 @@ length-decoder v =
     let tail : List ℕ = predictorsBytes (v .lms) ++ pendingBytes v in
     omega (
       arith,
-      length-append (modeBytes (v .mode)) (bytesOf 8 (v .at) ++ (frameBytes (v .frame) ++ (rest ++ tail))),
-      length-append (bytesOf 8 (v .at)) (frameBytes (v .frame) ++ (rest ++ tail)),
-      length-append (frameBytes (v .frame)) (rest ++ tail),
+      length-append (modeBytes (v .mode)) (bytesOf 8 (v .at) ++ (factsBytes (v .frame) ++ (rest ++ tail))),
+      length-append (bytesOf 8 (v .at)) (factsBytes (v .frame) ++ (rest ++ tail)),
+      length-append (factsBytes (v .frame)) (rest ++ tail),
       length-append rest tail,
       length-append (predictorsBytes (v .lms)) (pendingBytes v),
       length-mode (v .mode),
@@ -208,7 +208,7 @@ length-decoder v =
       length-pending v,
     )
 
-pub length-encoder : (v : E.View) → length (encoderBytes v) ≡ encoderSize
+pub length-encoder : (v : E.EncoderView) → length (encoderBytes v) ≡ encoderSize
 unfolding encoderBytes
 length-encoder v =
     omega (

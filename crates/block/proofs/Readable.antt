@@ -10,12 +10,12 @@ use lib.IntN.{pos}
 use lib.ListN.{getD, length}
 use Rattle.word.specs.Bytes.{be16, be32, be64}
 use Rattle.word.specs.Written.{table}
-use Rattle.header.specs.Format.{maxChannels}
-use Rattle.header.specs.Predictor.{lmsOf}
+use Rattle.format.specs.Format.{maxChannels}
+use Rattle.format.specs.Predictor.{lmsOf}
 use Rattle.state.specs.View.{view}
 use Rattle.state.specs.declared.FrameFacts.{FrameFacts}
 use Rattle.state.specs.declared.QoaDecoder.{QoaDecoder}
-use Rattle.state.proofs.Belows.{and-left, and-right}
+use Rattle.word.proofs.Belows.{and-left, and-right}
 use Rattle.encoder.specs.Encoder as E
 use Rattle.encoder.specs.declared.QoaEncoder.{QoaEncoder}
 use Rattle.block.specs.DecoderBlock.{byteIn, decoderIn, decoderSize, frameIn, isDecoder, modeIn, sampleIn}
@@ -70,6 +70,6 @@ decoder-read block d mode at frame remaining next end given lms pending =
 
 pub encoder-read : (block : List ℕ) (e : QoaEncoder)
     → e .channels ≡ byteIn block 0 → e .rate ≡ be32 block 1 → e .total ≡ be32 block 5 → table (e .channels) (lmsOf (e .lms)) ≡ predictorsIn block 9 (byteIn block 0)
-    → E.view e ≡ encoderIn block
-unfolding encoderIn E.view
+    → E.encoderView e ≡ encoderIn block
+unfolding encoderIn E.encoderView
 encoder-read block e channels rate total lms = λ i. record { channels = channels i; rate = rate i; total = total i; lms = lms i }

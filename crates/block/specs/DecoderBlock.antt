@@ -10,7 +10,7 @@ use mir.Val.{toZ}
 use Rattle.wrap.specs.Wrap.{low16}
 use Rattle.word.specs.Bytes.{be16, be32, be64, bytesOf}
 use Rattle.word.specs.Written.{table}
-use Rattle.header.specs.Format.{maxChannels}
+use Rattle.format.specs.Format.{maxChannels}
 use Rattle.body.specs.Laid.{laid}
 use Rattle.state.specs.View.{View}
 use Rattle.state.specs.declared.FrameFacts.{FrameFacts}
@@ -65,8 +65,8 @@ unfoldable pub modeBytes : ProcessingMode → List ℕ
 modeBytes Streaming = fixedBytes 0 0 0 0
 modeBytes (FixedSamples total c rate) = fixedBytes 1 total c rate
 
-unfoldable pub frameBytes : FrameFacts → List ℕ
-frameBytes f = bytesOf 1 (f .channels) ++ (bytesOf 4 (f .rate) ++ bytesOf 2 (f .samples))
+unfoldable pub factsBytes : FrameFacts → List ℕ
+factsBytes f = bytesOf 1 (f .channels) ++ (bytesOf 4 (f .rate) ++ bytesOf 2 (f .samples))
 
 -- what remains, the range of the pending samples, and whether the first header was given
 unfoldable pub restBytes : ℕ → ℕ → ℕ → Bool → List ℕ
@@ -83,7 +83,7 @@ unfoldable pub decoderBytes : View → List ℕ
 decoderBytes v =
     modeBytes (v .mode)
     ++ (bytesOf 8 (v .at)
-    ++ (frameBytes (v .frame)
+    ++ (factsBytes (v .frame)
     ++ (restBytes (v .remaining) (v .next) (v .end) (v .given)
     ++ (predictorsBytes (v .lms)
     ++ pendingBytes v))))

@@ -6,7 +6,7 @@ use mathlib.Core.List.{List}
 use Prim.Native.Nat.{ℕ}
 use lib.Dec.{leb}
 use Rattle.word.specs.Bytes.{be16}
-use Rattle.header.specs.Format.{maxChannels}
+use Rattle.format.specs.Format.{maxChannels}
 use Rattle.state.specs.View.{view}
 use Rattle.encoder.specs.Encoder as E
 use Rattle.block.specs.DecoderBlock.{byteIn, decoderIn, isDecoder}
@@ -28,4 +28,4 @@ pub record DecoderRead (block : List ℕ) (r : BlockDecoder) : Type 0 where
 
 pub record EncoderRead (block : List ℕ) (r : BlockEncoder) : Type 0 where
   pub readable : r .readable ≡ readableEncoder block
-  pub state : readableEncoder block ≡ true → E.view (r .state) ≡ encoderIn block
+  pub state : readableEncoder block ≡ true → E.encoderView (r .state) ≡ encoderIn block

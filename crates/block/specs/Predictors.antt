@@ -9,8 +9,8 @@ use Rattle.word.specs.Bytes.{be32, bytesOf}
 use Rattle.word.specs.Written.{table}
 use Rattle.lms.specs.Predictor.{at}
 use Rattle.lms.specs.declared.QoaLms.{QoaLms}
-use Rattle.header.specs.Format.{maxChannels}
-use Rattle.header.specs.Predictor.{lmsOf}
+use Rattle.format.specs.Format.{maxChannels}
+use Rattle.format.specs.Predictor.{lmsOf}
 use Rattle.body.specs.Laid.{laid}
 
 -- ---- read

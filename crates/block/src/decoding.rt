@@ -7,18 +7,18 @@ ghost use lib.IntN.{pos};
 ghost use lib.ListN.{getD, length};
 ghost use Rattle.word.specs.Bytes.{bytesOf};
 ghost use Rattle.word.specs.Written.{table};
-ghost use Rattle.header.specs.Format.{maxChannels};
+ghost use Rattle.format.specs.Format.{maxChannels};
 ghost use Rattle.state.specs.View.{view};
 ghost use Rattle.encoder.specs.Calls.{onto};
 ghost use Rattle.body.specs.Laid.{laid};
 ghost use Rattle.body.specs.Laid.{overlaid};
 ghost use Rattle.wrap.specs.Wrap.{low16};
-ghost use Rattle.block.specs.DecoderBlock.{decoderBytes, decoderSize, fixedBytes, frameBytes, frameIn, modeBytes, modeIn, restBytes, sampleIn};
+ghost use Rattle.block.specs.DecoderBlock.{decoderBytes, decoderSize, fixedBytes, factsBytes, frameIn, modeBytes, modeIn, restBytes, sampleIn};
 ghost use Rattle.block.specs.Parts.{DecoderRead, readableDecoder};
 use crate::predictors::PREDICTOR_SIZE;
 use crate::predictors::read_predictors;
 use crate::predictors::write_predictors;
-use header::frame::QOA_MAX_CHANNELS;
+use format::frame::QOA_MAX_CHANNELS;
 use state::FrameFacts;
 use state::PENDING;
 use state::ProcessingMode;
@@ -175,7 +175,7 @@ fn write_mode(block: &mut [u8], mode: ProcessingMode)
 // Stores the current frame.
 fn write_frame(block: &mut [u8], frame: FrameFacts)
     requires { ⌜ 25 ≤ length (now block) ⌝ }
-    ensures { λ r. ⌜ now (block .exit) ≡ overlaid (now (block .entry)) 18 (frameBytes frame) ⌝ }
+    ensures { λ r. ⌜ now (block .exit) ≡ overlaid (now (block .entry)) 18 (factsBytes frame) ⌝ }
 {
     word::write_be(block, CHANNELS_AT, frame.channels as u64, 1);
     word::write_u32(block, RATE_AT, frame.rate);

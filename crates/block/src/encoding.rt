@@ -3,7 +3,7 @@ ghost use mathlib.Core.Path.{_≡_};
 ghost use Prim.Native.Nat.{_≤_};
 ghost use lib.ListN.{length};
 ghost use Rattle.encoder.specs.Calls.{onto};
-ghost use Rattle.encoder.specs.Encoder.{view};
+ghost use Rattle.encoder.specs.Encoder.{encoderView};
 ghost use Rattle.block.specs.EncoderBlock.{encoderBytes, encoderSize};
 ghost use Rattle.block.specs.Parts.{EncoderRead, readableEncoder};
 use crate::predictors::PREDICTOR_SIZE;
@@ -11,7 +11,7 @@ use crate::predictors::read_predictors;
 use crate::predictors::write_predictors;
 use crate::predictors::zero_predictor;
 use encoder::QoaEncoder;
-use header::frame::QOA_MAX_CHANNELS;
+use format::frame::QOA_MAX_CHANNELS;
 
 // Where the fields stand, in their order.
 const RATE_AT: usize = 1;
@@ -73,7 +73,7 @@ pub fn read_encoder(block: &[u8]) -> BlockEncoder
 // Stores a state at the start of lent memory.
 pub fn write_encoder(block: &mut [u8], e: QoaEncoder)
     requires { ⌜ encoderSize ≤ length (now block) ⌝ }
-    ensures { λ r. ⌜ now (block .exit) ≡ onto (now (block .entry)) (encoderBytes (view e)) ⌝ }
+    ensures { λ r. ⌜ now (block .exit) ≡ onto (now (block .entry)) (encoderBytes (encoderView e)) ⌝ }
 {
     let states = e.lms;
     word::write_be(block, 0, e.channels as u64, 1);

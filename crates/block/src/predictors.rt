@@ -7,13 +7,13 @@ ghost use mir.Syntax.{w32};
 ghost use mir.Val.{toZ};
 ghost use Rattle.word.specs.Bytes.{be32};
 ghost use Rattle.word.specs.Written.{table};
-ghost use Rattle.header.specs.Format.{maxChannels};
-ghost use Rattle.header.specs.Predictor.{lmsOf};
-ghost use Rattle.state.specs.Opening.{zeroLms};
+ghost use Rattle.format.specs.Format.{maxChannels};
+ghost use Rattle.format.specs.Predictor.{lmsOf};
+ghost use Rattle.lms.specs.Predictor.{zeroLms};
 ghost use Rattle.body.specs.Laid.{overlaid};
 ghost use Rattle.block.specs.Predictors.{fourBytes, fourIn, predictorBytes, predictorIn, predictorsBytes, predictorsIn};
-use header::frame::QOA_LMS_LEN;
-use header::frame::QOA_MAX_CHANNELS;
+use format::frame::QOA_MAX_CHANNELS;
+use lms::QOA_LMS_LEN;
 use lms::QoaLms;
 
 // The bytes of one channel's.

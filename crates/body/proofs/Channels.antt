@@ -8,7 +8,7 @@ use lib.IntN.{ℤ, pos}
 use lib.ListN.{length, drop, length-drop, length-take}
 use lib.Seq.{getD-drop, getD-take}
 use Rattle.word.proofs.Tables.{getD-table}
-use Rattle.lms.specs.Predictor.{at, HistoryFits, WeightsWithin}
+use Rattle.lms.specs.Predictor.{at}
 use Rattle.lms.specs.declared.QoaLms.{QoaLms}
 use Rattle.lms.proofs.Bounds.{within-more}
 use Rattle.search.specs.Search.{encodedSlice, strided}
@@ -17,6 +17,7 @@ use Rattle.search.proofs.Fitting.{strided-length}
 use Rattle.search.proofs.Lists.{whole-table}
 use Rattle.search.proofs.Slices.{encoded-fits, encoded-lms, encoded-within}
 use Rattle.body.specs.Channel.{lmsBefore, slicePart, sliceWord}
+use Rattle.lms.specs.Parts.{HistoryFits, WeightsWithin}
 
 -- ---- the samples
 

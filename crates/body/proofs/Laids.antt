@@ -11,9 +11,10 @@ use Rattle.word.specs.Written.{written}
 use Rattle.word.proofs.BytesLaws.{length-bytes}
 use Rattle.word.proofs.Writes.{written-at}
 use Rattle.lms.specs.declared.QoaLms.{QoaLms}
-use Rattle.header.specs.Predictor.{fourWord, putLms}
+use Rattle.format.specs.Predictor.{fourWord}
 use Rattle.body.specs.Laid.{laid, lmsBytes, overlaid}
 use Rattle.body.proofs.Overlays.{length-over, over-put, over-then}
+use Rattle.format.specs.Parts.{putLms}
 
 -- blocks of one length
 pub length-laid : (m n : ℕ) (f : ℕ → List ℕ) → ((i : ℕ) → length (f i) ≡ m) → length (laid n f) ≡ n * m

@@ -4,7 +4,7 @@ use mathlib.Core.List.{List, [], _++_}
 use lib.ListN.{length, take, drop}
 use Rattle.word.specs.Bytes.{bytesOf}
 use Rattle.lms.specs.declared.QoaLms.{QoaLms}
-use Rattle.header.specs.Predictor.{fourWord}
+use Rattle.format.specs.Predictor.{fourWord}
 
 -- f 0, f 1, .. below n, one after another
 unfoldable pub laid : ℕ → (ℕ → List ℕ) → List ℕ

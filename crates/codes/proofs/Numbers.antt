@@ -8,9 +8,9 @@ use lib.IntN.{pos, negℤ, _-ℤ_, +ℤ-idl}
 use mir.Syntax.{w64}
 use mir.Val.{SFits, toZ}
 use Rattle.wrap.proofs.Integers.{abs-neg, fits-abs, read-pos}
-use Rattle.header.specs.Refusals.{numberOf}
-use Rattle.header.specs.declared.refusal.Refusal.{Refusal}
-use Rattle.header.specs.declared.refusal.Refusal.the-variants.{NotQoaFile, NoSamples, InvalidFrameHeader, IncompatibleFrame, Truncated, TooManyChannels, OutputTooSmall, BadState, InputTooLong, InvalidChannels, InvalidSampleRate, InvalidSamples, WeightRange}
+use Rattle.refusal.specs.Refusals.{numberOf}
+use Rattle.refusal.specs.declared.Refusal.{Refusal}
+use Rattle.refusal.specs.declared.Refusal.the-variants.{NotQoaFile, NoSamples, InvalidFrameHeader, IncompatibleFrame, Truncated, TooManyChannels, OutputTooSmall, BadState, InputTooLong, InvalidChannels, InvalidSampleRate, InvalidSamples, WeightRange}
 
 -- the number of a refusal fits a byte
 pub number-small : (r : Refusal) → numberOf r < 256

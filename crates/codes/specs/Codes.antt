@@ -2,7 +2,7 @@
 use Prim.Native.Nat.{ℕ, _+_, _*_}
 use lib.Ieee.{Float, binary64, ofInt}
 use lib.IntN.{ℤ, pos, negℤ}
-use Rattle.word.specs.Rules.{Answer, good, refused}
+use Rattle.refusal.specs.Rules.{Answer, good, refused}
 use Rattle.encoder.specs.Calls.{Told, refuses, refuses-14, wrote}
 
 abbrev pub coded : Answer ℕ → ℤ

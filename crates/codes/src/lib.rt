@@ -2,13 +2,13 @@
 ghost use mathlib.Core.Path.{_≡_};
 ghost use Prim.Native.Nat.{_<_, _^_};
 ghost use lib.IntN.{negℤ, pos};
-ghost use Rattle.word.specs.Rules.{refused};
-ghost use Rattle.header.specs.Refusals.{numberOf};
+ghost use Rattle.refusal.specs.Rules.{refused};
+ghost use Rattle.refusal.specs.Refusals.{numberOf};
 ghost use Rattle.encoder.specs.Calls.{refuses-14, toldEncode};
 ghost use Rattle.oneshot.specs.Parts.{Small};
 ghost use Rattle.codes.specs.Codes.{coded, codedEncode};
 use encoder::EncodeAnswer;
-use header::refusal::Refusal;
+use refusal::Refusal;
 
 // Minus a number.
 fn negated(n: usize) -> i64
@@ -22,7 +22,7 @@ fn negated(n: usize) -> i64
 pub fn minus(refusal: Refusal) -> i64
     ensures { λ r. ⌜ r ≡ coded (refused (numberOf refusal)) ⌝ }
 {
-    negated(header::number(refusal) as usize)
+    negated(refusal::number(refusal) as usize)
 }
 
 // A count.

@@ -11,19 +11,19 @@ use native.Mathlib.Omega.{arith}
 use borrow.Author.Tests.{le-ltb, lt-ltb, ne-eqb}
 use lib.Dec.{T, eqb, ltb}
 use lib.ListN.{length}
-use Rattle.word.specs.Rules.{firstOf}
-use Rattle.word.proofs.Rules.{Quiet, none-fires, quiet}
+use Rattle.refusal.specs.Rules.{firstOf}
+use Rattle.refusal.proofs.Rules.{Quiet, none-fires, quiet}
 use Rattle.word.proofs.Tables.{getD-table}
 use Rattle.word.proofs.Tests.{tests}
-use Rattle.lms.specs.Predictor.{HistoryFits, WeightsWithin}
+use Rattle.lms.specs.Parts.{HistoryFits, WeightsWithin}
 use Rattle.lms.proofs.Bounds.{within-more}
-use Rattle.header.specs.Format.{slicesOf}
-use Rattle.header.specs.Header.{headerAt, leftAt}
-use Rattle.header.specs.Predictor.{lmsOf, noLms}
+use Rattle.format.specs.Format.{slicesOf}
+use Rattle.format.specs.Header.{headerAt, leftAt}
+use Rattle.format.specs.Predictor.{lmsOf, noLms}
 use Rattle.word.proofs.Fields.{AreBytes}
-use Rattle.header.proofs.Headers.{passes}
+use Rattle.format.proofs.Headers.{passes}
 use Rattle.groups.specs.Channel.{runAfter}
-use Rattle.groups.specs.Groups.{sliceWord}
+use Rattle.groups.specs.Groups.{wordAt}
 use Rattle.groups.proofs.Fits.{run-fits}
 use Rattle.groups.proofs.Growth.{run-within}
 use Rattle.state.specs.View.{View, channelsOf, waiting}
@@ -31,7 +31,7 @@ use Rattle.state.specs.States.{goodState, weightBound}
 use Rattle.state.proofs.Bounds.{bound-grows}
 use Rattle.state.proofs.GoodStates.{Good, facts-good, good-facts}
 use Rattle.state.proofs.OpenedStates.{read-good}
-use Rattle.into.specs.Into.{endAfter, flagged, groupsEnd, groupsFor, groupsLms, groupsSamples, intoAfter, intoCount, intoGroups, intoRules, nextAfter, takenFrom}
+use Rattle.into.specs.Into.{pendingTo, flagged, groupsEnd, groupsFor, groupsLms, groupsSamples, intoAfter, intoCount, intoGroups, intoRules, pendingFrom, takenFrom}
 use Rattle.frames.specs.Frames as Frames
 use Rattle.frames.specs.Frames.{dropped, enterRules, entered, enteredOr, frameRules, nextRules}
 use Rattle.decoder.specs.Items.{Turn, first-header, from-group, from-next, from-pending, itemAfter, itemRules, settled, turnAfter, turnOf, turnRules}
@@ -51,17 +51,17 @@ module _ (bs : List ℕ) (v : View) (g : Good v (length bs)) (few : v .remaining
   groups-history : (q j : ℕ) → j < channelsOf v → HistoryFits (lmsOf (groupsLms bs v q) j)
   unfolding groupsLms
   groups-history q j h =
-      rw (getD-table (channelsOf v) (λ j. runAfter (sliceWord bs (v .at) (channelsOf v) j) (lmsOf (v .lms) j) q) j noLms h)
-      (run-fits (sliceWord bs (v .at) (channelsOf v) j) (g .histories j h) q)
+      rw (getD-table (channelsOf v) (λ j. runAfter (wordAt bs (v .at) (channelsOf v) j) (lmsOf (v .lms) j) q) j noLms h)
+      (run-fits (wordAt bs (v .at) (channelsOf v) j) (g .histories j h) q)
 
   groups-weights : (q j : ℕ) → q ≤ slicesOf (v .remaining) → j < channelsOf v → WeightsWithin (weightBound (v .remaining - groupsSamples v q)) (lmsOf (groupsLms bs v q) j)
   unfolding groupsLms
   groups-weights q j needed h =
-      rw (getD-table (channelsOf v) (λ j. runAfter (sliceWord bs (v .at) (channelsOf v) j) (lmsOf (v .lms) j) q) j noLms h)
-      (within-more (bound-grows (v .remaining) q few needed) (run-within (sliceWord bs (v .at) (channelsOf v) j) (g .weights j h) q))
+      rw (getD-table (channelsOf v) (λ j. runAfter (wordAt bs (v .at) (channelsOf v) j) (lmsOf (v .lms) j) q) j noLms h)
+      (within-more (bound-grows (v .remaining) q few needed) (run-within (wordAt bs (v .at) (channelsOf v) j) (g .weights j h) q))
 
   -- the pending samples are of one group at most
-  end-le : (q : ℕ) → endAfter v q ≤ 20 * channelsOf v
+  end-le : (q : ℕ) → pendingTo v q ≤ 20 * channelsOf v
   end-le zero = g .one-group
   end-le (suc q) =
       let some-group : eqb (suc q) 0 ≡ false = ne-eqb (suc q) 0 (λ e. omega arith) in
@@ -78,8 +78,8 @@ module _ (bs : List ℕ) (v : View) (g : Good v (length bs)) (few : v .remaining
         few-channels = g .few-channels;
         some-channels = λ h. g .some-channels (omega arith);
         within-frame = omega (arith, g .within-frame);
-        in-order = range-order (nextAfter v q k) (endAfter v q);
-        one-group = omega (arith, range-le (nextAfter v q k) (endAfter v q), end-le q);
+        in-order = range-order (pendingFrom v q k) (pendingTo v q);
+        one-group = omega (arith, range-le (pendingFrom v q k) (pendingTo v q), end-le q);
         histories = groups-history q;
         weights = λ j h. groups-weights q j needed h;
       }

@@ -10,25 +10,27 @@ use borrow.Author.Tests.{le-ltb, lt-ltb}
 use lib.Dec.{ltb}
 use lib.IntN.{ℤ, pos}
 use lib.ListN.{getD, length}
-use Rattle.word.specs.Rules.{Answer, good, refused, firstOf, unless}
+use Rattle.refusal.specs.Rules.{Answer, good, refused, firstOf, unless}
 use Rattle.word.specs.Written.{table, written}
-use Rattle.word.proofs.Rules.{fires, good-same, never, none-fires, refused-one}
+use Rattle.refusal.proofs.Rules.{fires, good-same, never, none-fires, refused-one}
 use Rattle.word.proofs.Tests.{tests}
 use Rattle.word.proofs.Writes.{written-at}
-use Rattle.header.specs.Refusals.{numberOf}
-use Rattle.header.specs.declared.refusal.Refusal.the-variants.{BadState, Truncated}
+use Rattle.refusal.specs.Refusals.{numberOf}
+use Rattle.refusal.specs.declared.Refusal.the-variants.{BadState, Truncated}
 use Rattle.state.specs.View.{view, waiting}
 use Rattle.state.specs.States.{goodState}
 use Rattle.state.specs.declared.QoaDecoder.{QoaDecoder}
 use Rattle.into.specs.Into.{comingAt, flagged, groupsFor, takenFrom}
-use Rattle.frames.specs.Frames.{EnterDone, Found, a-frame, enterRules, enteredOr, foundAt, no-frame, toldFrame}
-use Rattle.decoder.specs.Items.{Item, ItemDone, Turn, TurnDone, first-header, from-group, from-next, from-pending, itemAfter, itemIn, itemOf, itemRules, settled, toldItem, turnOf, turnRules}
+use Rattle.frames.specs.Frames.{Found, a-frame, enterRules, enteredOr, foundAt, no-frame, toldFrame}
+use Rattle.decoder.specs.Items.{Item, ItemDone, Turn, first-header, from-group, from-next, from-pending, itemAfter, itemIn, itemOf, itemRules, settled, toldItem, turnOf, turnRules}
 use Rattle.frames.specs.declared.NextFrame.{NextFrame}
 use Rattle.decoder.specs.declared.NextItem.{NextItem}
 use Rattle.frames.specs.declared.FrameAnswer as F
 use Rattle.decoder.specs.declared.QoaItem as Q
 use Rattle.into.proofs.Counts.{groups-one}
 use Rattle.into.proofs.Coming.{coming-pending}
+use Rattle.frames.specs.Parts.{EnterDone}
+use Rattle.decoder.specs.Parts.{TurnDone}
 
 -- a state with no sample pending
 pub view-settled : (d : QoaDecoder)

@@ -6,8 +6,8 @@ use mathlib.Core.List.{List, [], _∷_}
 use lib.Dec.{ltb}
 use lib.IntN.{ℤ}
 use lib.ListN.{length}
-use Rattle.word.specs.Rules.{Answer, good, refused, Rule, _gives_, after, firstOf}
-use Rattle.header.specs.Refusals.{numberOf}
+use Rattle.refusal.specs.Rules.{Answer, good, refused, Rule, _gives_, after, firstOf}
+use Rattle.refusal.specs.Refusals.{numberOf}
 use Rattle.state.specs.View.{View, view, waiting}
 use Rattle.state.specs.States.{goodState}
 use Rattle.state.specs.declared.QoaDecoder.{QoaDecoder}
@@ -86,11 +86,6 @@ toldItem (Header f) = good (a-header f)
 toldItem (Sample x) = good (a-sample x)
 toldItem End = good no-item
 toldItem (Refused r) = refused (numberOf r)
-
--- what one of the four turns promises, of a state whose turn it is
-pub record TurnDone (turn : Turn) (bs : List ℕ) (d : QoaDecoder) (r : NextItem) : Type 0 where
-  pub told : toldItem (r .item) ≡ after (turnRules turn bs (view d)) (good (turnItem turn bs (view d)))
-  pub left : Leaves (firstOf (turnRules turn bs (view d))) d (turnAfter turn bs (view d)) (r .state)
 
 -- what the call promises: its item and its state
 pub record ItemDone (bs : List ℕ) (d : QoaDecoder) (r : NextItem) : Type 0 where

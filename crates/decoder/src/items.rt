@@ -4,20 +4,21 @@ ghost use mathlib.Core.Bool.{true};
 ghost use mathlib.Core.List.{List};
 ghost use Prim.Native.Nat.{ℕ, _*_, _≤_, _<_};
 ghost use lib.ListN.{length};
-ghost use Rattle.header.specs.Format.{maxChannels};
+ghost use Rattle.format.specs.Format.{maxChannels};
 ghost use Rattle.state.specs.View.{view};
 ghost use Rattle.state.specs.States.{goodState};
 ghost use Rattle.decoder.specs.declared.QoaItem.the-variants.{Refused};
-ghost use Rattle.decoder.specs.Items.{ItemDone, TurnDone, first-header, from-group, from-next, from-pending, settled};
+ghost use Rattle.decoder.specs.Items.{ItemDone, first-header, from-group, from-next, from-pending, settled};
 use crate::NextItem;
 use crate::QoaItem;
+use format::frame::QOA_HEADER_SIZE;
 use frames::FrameAnswer;
 use frames::enter_frame;
-use header::frame::QOA_HEADER_SIZE;
-use header::refusal::Refusal;
 use into::after_pending;
 use into::decode_more;
+use refusal::Refusal;
 use state::QoaDecoder;
+ghost use Rattle.decoder.specs.Parts.{TurnDone};
 
 // The first of the pending samples.
 fn pending_item(d: QoaDecoder) -> NextItem

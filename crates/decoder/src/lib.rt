@@ -4,11 +4,10 @@ pub mod items;
 pub use frames::FrameAnswer;
 pub use frames::NextFrame;
 pub use frames::next_frame;
-use header::refusal::Refusal;
 pub use into::DecodedInto;
-pub use into::IntoAnswer;
 pub use into::decode_into;
 pub use items::next_item;
+use refusal::Refusal;
 use state::FrameFacts;
 use state::QoaDecoder;
 

@@ -11,13 +11,13 @@ use lib.ListN.{getD, length, List·getD-append}
 use lib.Seq.{getD-append-add}
 use Rattle.word.specs.Bytes.{bytesOf}
 use Rattle.lms.specs.declared.QoaLms.{QoaLms}
-use Rattle.header.specs.FileHeader.{magic}
-use Rattle.header.specs.Format.{slicesOf}
-use Rattle.header.specs.Header.{headerWord}
-use Rattle.header.specs.Predictor.{fourWord, lmsOf}
+use Rattle.format.specs.FileHeader.{magic}
+use Rattle.format.specs.Format.{slicesOf}
+use Rattle.format.specs.Header.{headerWord}
+use Rattle.format.specs.Predictor.{fourWord, lmsOf}
 use Rattle.word.proofs.Fields.{AreBytes, are-bytes}
 use Rattle.search.proofs.Slices.{encoded-word-lt}
-use Rattle.encoder.specs.Encoder.{View}
+use Rattle.encoder.specs.Encoder.{EncoderView}
 use Rattle.body.specs.Channel.{lmsBefore, slicePart, sliceWord}
 use Rattle.body.specs.Laid.{laid}
 use Rattle.encoder.specs.Frame.{frameBytes, groupBytes, headerFor, perChannel, stateBytes}
@@ -41,7 +41,7 @@ pub head-bytes : (total : ℕ) → AreBytes (headBytes total)
 unfolding headBytes
 head-bytes total = append-bytes (bytesOf 4 magic) (bytesOf 4 total) (are-bytes 4 magic) (are-bytes 4 total)
 
-pub frame-bytes : (v : View) (samples : List ℤ) → AreBytes (frameBytes v samples)
+pub frame-bytes : (v : EncoderView) (samples : List ℤ) → AreBytes (frameBytes v samples)
 unfolding frameBytes
 frame-bytes v samples =
     append-bytes (bytesOf 8 (headerWord (headerFor v (perChannel v samples)))) (stateBytes v ++ laid (slicesOf (perChannel v samples)) (groupBytes v samples)) (are-bytes 8 _)

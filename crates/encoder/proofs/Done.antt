@@ -9,12 +9,12 @@ use native.Mathlib.Omega.{arith}
 use lib.Dec.{T}
 use lib.IntN.{ℤ}
 use lib.ListN.{length}
-use Rattle.word.specs.Rules.{good, refused, Rule, _gives_, firstOf}
-use Rattle.word.proofs.Rules.{after-refused, quiet, unless-good}
+use Rattle.refusal.specs.Rules.{good, refused, Rule, _gives_, firstOf}
+use Rattle.refusal.proofs.Rules.{quiet}
 use Rattle.word.proofs.Tests.{nnot, tests}
-use Rattle.header.specs.Format.{frameLength, maxChannels, mostRate}
-use Rattle.encoder.specs.Encoder.{View, view, createRules, goodEncoder, newView, toldCreate, zeroEncoder}
-use Rattle.encoder.specs.Frame.{afterFrame, firstWide, frameBytes, frameRules, perChannel}
+use Rattle.format.specs.Format.{frameLength, maxChannels, mostRate}
+use Rattle.encoder.specs.Encoder.{EncoderView, encoderView, createRules, goodEncoder, newView, zeroEncoder}
+use Rattle.encoder.specs.Frame.{afterFrame, firstWide, frameBytes, encodeRules, perChannel}
 use Rattle.encoder.specs.Head.{headBytes, headRules}
 use Rattle.encoder.specs.Calls.{CreateDone, FrameDone, NewState, frameMemory, frameTold, headMemory, headTold, onto, refuses, refuses-14, toldEncode, wrote}
 use Rattle.encoder.specs.Parts.{FrameFits}
@@ -22,28 +22,29 @@ use Rattle.encoder.specs.declared.CreatedEncoder.{CreatedEncoder}
 use Rattle.encoder.specs.declared.EncodedBytes.{EncodedBytes}
 use Rattle.encoder.specs.declared.QoaEncoder.{QoaEncoder}
 use Rattle.encoder.proofs.GoodEncoders.{Good, good-facts}
+use Rattle.refusal.specs.Refusals.{toldChecked}
 
 -- ---- creation
 
 module _ (c rate total : ℕ) (r : CreatedEncoder) where
-  pub create-refused : (n : ℕ) → firstOf (createRules c rate total) ≡ some n → toldCreate (r .answer) ≡ refused n → r .state ≡ zeroEncoder → CreateDone c rate total r
+  pub create-refused : (n : ℕ) → firstOf (createRules c rate total) ≡ some n → toldChecked (r .answer) ≡ some n → r .state ≡ zeroEncoder → CreateDone c rate total r
   create-refused n e t s = record { told = rw e t; made = rw e s }
 
-  pub created : firstOf (createRules c rate total) ≡ none → toldCreate (r .answer) ≡ good tt → view (r .state) ≡ newView c rate total → CreateDone c rate total r
+  pub created : firstOf (createRules c rate total) ≡ none → toldChecked (r .answer) ≡ none → encoderView (r .state) ≡ newView c rate total → CreateDone c rate total r
   created e t s = record { told = rw e t; made = rw e s }
 
 -- and what it tells of the rules
-made-new : (o : Option ℕ) (v : View) (s : QoaEncoder) → o ≡ none → NewState o v s → view s ≡ v
+made-new : (o : Option ℕ) (v : EncoderView) (s : QoaEncoder) → o ≡ none → NewState o v s → encoderView s ≡ v
 made-new none v s e m = m
 made-new (some n) v s e m = let z : _≡_ {A = ℕ} 0 1 = cc in absurd (omega arith)
 
 module _ (c rate total : ℕ) (r : CreatedEncoder) (d : CreateDone c rate total r) where
-  pub was-refused : (n : ℕ) → toldCreate (r .answer) ≡ refused n → firstOf (createRules c rate total) ≡ some n
-  was-refused n e = after-refused (createRules c rate total) tt n (sym (d .told) ∙ e)
+  pub was-refused : (n : ℕ) → toldChecked (r .answer) ≡ some n → firstOf (createRules c rate total) ≡ some n
+  was-refused n e = sym (d .told) ∙ e
 
-  pub was-created : toldCreate (r .answer) ≡ good tt → (firstOf (createRules c rate total) ≡ none) × (view (r .state) ≡ newView c rate total)
+  pub was-created : toldChecked (r .answer) ≡ none → (firstOf (createRules c rate total) ≡ none) × (encoderView (r .state) ≡ newView c rate total)
   was-created e =
-      let quiet = unless-good (firstOf (createRules c rate total)) (good tt) tt (sym (d .told) ∙ e) .0 in
+      let quiet = sym (d .told) ∙ e in
       (quiet, made-new (firstOf (createRules c rate total)) (newView c rate total) (r .state) quiet (d .made))
 
 -- what the rules leave
@@ -64,7 +65,7 @@ is-true : (b : Bool) → T b → b ≡ true
 is-true true t = refl
 is-true false t = absurd t
 
-module _ (v : View) (rules : List Rule) where
+module _ (v : EncoderView) (rules : List Rule) where
   abbrev guarded : List Rule
   guarded = (not (goodEncoder v) gives 8) ∷ rules
 
@@ -81,7 +82,7 @@ module _ (v : View) (rules : List Rule) where
 
 -- ---- the file header
 
-module _ (v : View) (out : List ℕ) where
+module _ (v : EncoderView) (out : List ℕ) where
   pub head-refused : (n : ℕ) → firstOf (headRules v (length out)) ≡ some n → (refuses n ≡ headTold v (length out)) × (out ≡ headMemory v out)
   head-refused n e = rw e (refl, refl)
 
@@ -92,19 +93,19 @@ module _ (v : View) (out : List ℕ) where
 
 module _ (e : QoaEncoder) (samples : List ℤ) (out : List ℕ) (r : EncodedBytes) (left : List ℕ) where
   abbrev rulesOf : List Rule
-  rulesOf = frameRules (view e) samples (length out)
+  rulesOf = encodeRules (encoderView e) samples (length out)
 
   pub frame-refused : (n : ℕ) → firstOf rulesOf ≡ some n → toldEncode (r .answer) ≡ refuses n → left ≡ out → r .state ≡ e → FrameDone e samples out r left
   unfolding frameTold frameMemory
   frame-refused n fired t m s = record { told = rw fired t; memory = rw fired m; back = rw fired s }
 
-  pub frame-wide : (j : ℕ) → firstOf rulesOf ≡ none → firstWide (view e .channels) (view e .lms) ≡ some j → toldEncode (r .answer) ≡ refuses-14 0 j → left ≡ out → r .state ≡ e
+  pub frame-wide : (j : ℕ) → firstOf rulesOf ≡ none → firstWide (encoderView e .channels) (encoderView e .lms) ≡ some j → toldEncode (r .answer) ≡ refuses-14 0 j → left ≡ out → r .state ≡ e
       → FrameDone e samples out r left
   unfolding frameTold frameMemory
   frame-wide j quiet wide t m s = record { told = rw (quiet, wide) t; memory = rw (quiet, wide) m; back = rw (quiet, wide) s }
 
-  pub frame-done : firstOf rulesOf ≡ none → firstWide (view e .channels) (view e .lms) ≡ none → toldEncode (r .answer) ≡ wrote (frameLength (view e .channels) (perChannel (view e) samples))
-      → left ≡ onto out (frameBytes (view e) samples) → view (r .state) ≡ afterFrame (view e) samples → FrameDone e samples out r left
+  pub frame-done : firstOf rulesOf ≡ none → firstWide (encoderView e .channels) (encoderView e .lms) ≡ none → toldEncode (r .answer) ≡ wrote (frameLength (encoderView e .channels) (perChannel (encoderView e) samples))
+      → left ≡ onto out (frameBytes (encoderView e) samples) → encoderView (r .state) ≡ afterFrame (encoderView e) samples → FrameDone e samples out r left
   unfolding frameTold frameMemory
   frame-done quiet wide t m s = record { told = rw (quiet, wide) t; memory = rw (quiet, wide) m; back = rw (quiet, wide) s }
 
@@ -114,12 +115,12 @@ some-of zero c long e h = omega (arith, zero-mul c)
 some-of (suc n) c long e h = omega arith
 
 -- what the rules leave
-pub frame-fits : (v : View) (samples : List ℤ) (room : ℕ) → firstOf (frameRules v samples room) ≡ none → firstWide (v .channels) (v .lms) ≡ none
+pub frame-fits : (v : EncoderView) (samples : List ℤ) (room : ℕ) → firstOf (encodeRules v samples room) ≡ none → firstWide (v .channels) (v .lms) ≡ none
     → FrameFits v samples × (frameLength (v .channels) (perChannel v samples) ≤ room)
-unfolding frameRules
+unfolding encodeRules
 frame-fits v samples room e narrow =
     let g = good-left v _ e in
-    let q = quiet (frameRules v samples room) e .1 in
+    let q = quiet (encodeRules v samples room) e .1 in
     let whole : perChannel v samples * v .channels ≡ length samples = omega (arith, tests, div-add-mod' (length samples) (v .channels)) in (
       record {
         some-channels = g .some-channels;

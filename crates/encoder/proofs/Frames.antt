@@ -10,14 +10,14 @@ use lib.ListN.{length, length-append}
 use Rattle.word.specs.Bytes.{bytesOf, put}
 use Rattle.word.proofs.BytesLaws.{length-bytes}
 use Rattle.word.proofs.Tables.{getD-table, length-table, table-ext}
-use Rattle.lms.specs.Predictor.{WeightsWithin}
+use Rattle.lms.specs.Parts.{WeightsWithin}
 use Rattle.lms.specs.declared.QoaLms.{QoaLms}
-use Rattle.header.specs.Format.{frameLength, maxChannels, slicesOf, stateEnd}
-use Rattle.header.specs.Header.{headerWord}
-use Rattle.header.specs.Predictor.{lmsOf, noLms}
+use Rattle.format.specs.Format.{frameLength, maxChannels, slicesOf, stateEnd}
+use Rattle.format.specs.Header.{headerWord}
+use Rattle.format.specs.Predictor.{lmsOf, noLms}
 use Rattle.search.specs.Search.{strided}
 use Rattle.search.proofs.Fitting.{strided-length}
-use Rattle.encoder.specs.Encoder.{View, view, goodEncoder}
+use Rattle.encoder.specs.Encoder.{EncoderView, encoderView, goodEncoder}
 use Rattle.body.specs.Channel.{lmsBefore, sliceWord}
 use Rattle.body.specs.Laid.{laid, lmsBytes, overlaid}
 use Rattle.encoder.specs.Frame.{afterFrame, channelOf, firstWide, frameBytes, frameSums, groupBytes, headerFor, perChannel, stateBytes}
@@ -31,7 +31,7 @@ use Rattle.encoder.proofs.Wides.{short-within, wide-ext, wide-none}
 
 -- ---- lengths
 
-module _ (v : View) (samples : List ℤ) where
+module _ (v : EncoderView) (samples : List ℤ) where
   pub length-frame : length (frameBytes v samples) ≡ frameLength (v .channels) (perChannel v samples)
   unfolding frameBytes frameLength stateEnd
   length-frame =
@@ -72,38 +72,38 @@ module _ (e : QoaEncoder) (samples : List ℤ) where
   abbrev mine : ℕ → List ℤ
   mine j = strided many samples j (e .channels)
 
-  pub frame-of : frameBytes (view e) samples
+  pub frame-of : frameBytes (encoderView e) samples
       ≡ bytesOf 8 (headerWord record { channels = e .channels; rate = e .rate; samples = many; size = frameLength (e .channels) many })
       ++ (laid (e .channels) (λ j. lmsBytes (lmsOf (e .lms) j)) ++ laid (slicesOf many) (λ g. laid (e .channels) (λ j. bytesOf 8 (sliceWord (lmsOf (e .lms) j) (mine j) g))))
-  unfolding frameBytes view
+  unfolding frameBytes encoderView
   frame-of =
-      ap₂ (λ (s g : List ℕ). bytesOf 8 (headerWord (headerFor (view e) many)) ++ (s ++ g))
-      (laid-ext (e .channels) (λ j. lmsBytes (lmsOf (view e .lms) j)) (λ j. lmsBytes (lmsOf (e .lms) j)) (λ j h. ap lmsBytes (view-lms e j h)))
-      (laid-ext (slicesOf many) (groupBytes (view e) samples) (λ g. laid (e .channels) (λ j. bytesOf 8 (sliceWord (lmsOf (e .lms) j) (mine j) g)))
-      (λ g _. laid-ext (e .channels) (λ j. bytesOf 8 (sliceWord (lmsOf (view e .lms) j) (mine j) g)) (λ j. bytesOf 8 (sliceWord (lmsOf (e .lms) j) (mine j) g))
+      ap₂ (λ (s g : List ℕ). bytesOf 8 (headerWord (headerFor (encoderView e) many)) ++ (s ++ g))
+      (laid-ext (e .channels) (λ j. lmsBytes (lmsOf (encoderView e .lms) j)) (λ j. lmsBytes (lmsOf (e .lms) j)) (λ j h. ap lmsBytes (view-lms e j h)))
+      (laid-ext (slicesOf many) (groupBytes (encoderView e) samples) (λ g. laid (e .channels) (λ j. bytesOf 8 (sliceWord (lmsOf (e .lms) j) (mine j) g)))
+      (λ g _. laid-ext (e .channels) (λ j. bytesOf 8 (sliceWord (lmsOf (encoderView e .lms) j) (mine j) g)) (λ j. bytesOf 8 (sliceWord (lmsOf (e .lms) j) (mine j) g))
       (λ j h. ap (λ (s : QoaLms). bytesOf 8 (sliceWord s (mine j) g)) (view-lms e j h))))
 
   pub after-of : (next : List QoaLms) → ((j : ℕ) → j < e .channels → lmsOf next j ≡ lmsBefore (lmsOf (e .lms) j) (mine j) (slicesOf many))
-      → view record { channels = e .channels; rate = e .rate; total = e .total; lms = next } ≡ afterFrame (view e) samples
-  unfolding view afterFrame
+      → encoderView record { channels = e .channels; rate = e .rate; total = e .total; lms = next } ≡ afterFrame (encoderView e) samples
+  unfolding encoderView afterFrame
   after-of next same =
       ap (λ (l : List QoaLms). record { channels = e .channels; rate = e .rate; total = e .total; lms = l })
-      (table-ext (e .channels) (lmsOf next) (λ j. lmsBefore (lmsOf (view e .lms) j) (mine j) (slicesOf many))
+      (table-ext (e .channels) (lmsOf next) (λ j. lmsBefore (lmsOf (encoderView e .lms) j) (mine j) (slicesOf many))
       (λ j h. same j h ∙ ap (λ (s : QoaLms). lmsBefore s (mine j) (slicesOf many)) (sym (view-lms e j h))))
 
   -- before it the weights are in 16 bits
-  pub frame-within : FrameFits (view e) samples → (j : ℕ) → j < e .channels → WeightsWithin 32768 (lmsOf (e .lms) j)
-  unfolding view
-  frame-within f j h = rw (← view-lms e j h) (short-within (lmsOf (view e .lms) j) (wide-none (view e .lms) (e .channels) (f .narrow) j h))
+  pub frame-within : FrameFits (encoderView e) samples → (j : ℕ) → j < e .channels → WeightsWithin 32768 (lmsOf (e .lms) j)
+  unfolding encoderView
+  frame-within f j h = rw (← view-lms e j h) (short-within (lmsOf (encoderView e .lms) j) (wide-none (encoderView e .lms) (e .channels) (f .narrow) j h))
 
 -- the first channel with a wide weight
-pub wide-view : (e : QoaEncoder) → firstWide (e .channels) (e .lms) ≡ firstWide (view e .channels) (view e .lms)
-unfolding view
-wide-view e = wide-ext (e .channels) (e .lms) (view e .lms) (λ j h. sym (view-lms e j h))
+pub wide-view : (e : QoaEncoder) → firstWide (e .channels) (e .lms) ≡ firstWide (encoderView e .channels) (encoderView e .lms)
+unfolding encoderView
+wide-view e = wide-ext (e .channels) (e .lms) (encoderView e .lms) (λ j h. sym (view-lms e j h))
 
 -- ---- the state after it
 
-module _ (v : View) (samples : List ℤ) where
+module _ (v : EncoderView) (samples : List ℤ) where
   pub after-good : Good v → Good (afterFrame v samples)
   unfolding afterFrame slicesOf
   after-good g = record {

@@ -5,17 +5,18 @@ use mathlib.Core.Bool.{true}
 use borrow.Author.Tests.{le-leb, leb-true}
 use lib.Dec.{leb}
 use Rattle.word.proofs.Tables.{getD-table}
-use Rattle.lms.specs.Predictor.{HistoryFits, newLms}
+use Rattle.lms.specs.Predictor.{newLms, historyRule}
 use Rattle.lms.proofs.Bounds.{new-fits}
-use Rattle.header.specs.Format.{maxChannels, mostRate}
-use Rattle.header.specs.Predictor.{lmsOf, noLms}
-use Rattle.state.specs.States.{below, historyRule}
-use Rattle.state.proofs.Belows.{and-left, and-right, below-all, below-at, below-ext}
-use Rattle.state.proofs.GoodStates.{facts-history, history-facts}
-use Rattle.encoder.specs.Encoder.{View, view, goodEncoder, newView}
+use Rattle.format.specs.Format.{maxChannels, mostRate}
+use Rattle.format.specs.Predictor.{lmsOf, noLms}
+use Rattle.lms.specs.Parts.{HistoryFits}
+use Rattle.word.specs.Below.{below}
+use Rattle.word.proofs.Belows.{and-left, and-right, below-all, below-at, below-ext}
+use Rattle.encoder.specs.Encoder.{EncoderView, encoderView, goodEncoder, newView}
 use Rattle.encoder.specs.declared.QoaEncoder.{QoaEncoder}
+use Rattle.lms.proofs.Shorts.{facts-history, history-facts}
 
-pub record Good (v : View) : Type 0 where
+pub record Good (v : EncoderView) : Type 0 where
   pub some-channels : 0 < v .channels
   pub few-channels : v .channels ≤ maxChannels
   pub some-rate : 0 < v .rate
@@ -23,7 +24,7 @@ pub record Good (v : View) : Type 0 where
   pub some-total : 0 < v .total
   pub histories : (j : ℕ) → j < v .channels → HistoryFits (lmsOf (v .lms) j)
 
-pub good-facts : (v : View) → goodEncoder v ≡ true → Good v
+pub good-facts : (v : EncoderView) → goodEncoder v ≡ true → Good v
 unfolding goodEncoder
 good-facts v e =
     let e1 = and-right (leb 1 (v .channels)) _ e in
@@ -40,7 +41,7 @@ good-facts v e =
       histories = λ j l. history-facts (lmsOf (v .lms) j) (below-at (λ j. historyRule (lmsOf (v .lms) j)) (v .channels) e5 j l);
     }
 
-pub facts-good : (v : View) → Good v → goodEncoder v ≡ true
+pub facts-good : (v : EncoderView) → Good v → goodEncoder v ≡ true
 unfolding goodEncoder
 facts-good v g =
     simp (
@@ -54,17 +55,17 @@ facts-good v g =
 
 -- ---- what a view shows of the state
 
-pub view-lms : (e : QoaEncoder) (j : ℕ) → j < e .channels → lmsOf (view e .lms) j ≡ lmsOf (e .lms) j
-unfolding view
+pub view-lms : (e : QoaEncoder) (j : ℕ) → j < e .channels → lmsOf (encoderView e .lms) j ≡ lmsOf (e .lms) j
+unfolding encoderView
 view-lms e j h = getD-table (e .channels) (lmsOf (e .lms)) j noLms h
 
 -- where the other rules hold, the histories decide
 pub good-by : (e : QoaEncoder) → 0 < e .channels → e .channels ≤ maxChannels → 0 < e .rate → e .rate ≤ mostRate → 0 < e .total
-    → goodEncoder (view e) ≡ below (e .channels) (λ j. historyRule (lmsOf (e .lms) j))
-unfolding goodEncoder view
+    → goodEncoder (encoderView e) ≡ below (e .channels) (λ j. historyRule (lmsOf (e .lms) j))
+unfolding goodEncoder encoderView
 good-by e c m r k t =
     simp (le-leb 1 (e .channels) c, le-leb (e .channels) maxChannels m, le-leb 1 (e .rate) r, le-leb (e .rate) mostRate k, le-leb 1 (e .total) t)
-    (below-ext (λ j. historyRule (lmsOf (view e .lms) j)) (λ j. historyRule (lmsOf (e .lms) j)) (e .channels) (λ j l. ap historyRule (view-lms e j l)))
+    (below-ext (λ j. historyRule (lmsOf (encoderView e .lms) j)) (λ j. historyRule (lmsOf (e .lms) j)) (e .channels) (λ j l. ap historyRule (view-lms e j l)))
 
 -- a new encoder is good
 pub good-new : (c rate total : ℕ) → 0 < c → c ≤ maxChannels → 0 < rate → rate ≤ mostRate → 0 < total → Good (newView c rate total)

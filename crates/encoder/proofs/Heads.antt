@@ -8,11 +8,12 @@ use lib.ListN.{length, length-append}
 use Rattle.word.specs.Bytes.{byteOf, bytesOf, put}
 use Rattle.word.specs.Written.{table}
 use Rattle.word.proofs.BytesLaws.{length-bytes}
-use Rattle.header.specs.FileHeader.{fileWord, magic}
+use Rattle.format.specs.FileHeader.{magic}
 use Rattle.body.specs.Laid.{overlaid}
 use Rattle.body.proofs.Overlays.{over-put}
 use Rattle.encoder.specs.Head.{headBytes}
 use Rattle.encoder.specs.Calls.{onto}
+use Rattle.format.specs.Parts.{fileWord}
 
 -- laid over it from the start
 pub over-start : (out xs : List ℕ) → overlaid out 0 xs ≡ onto out xs

@@ -6,21 +6,19 @@ use mathlib.Core.List.{List}
 use mathlib.Core.Option.{Option, none, some}
 use lib.IntN.{ℤ}
 use lib.ListN.{length}
-use Rattle.word.specs.Rules.{firstOf}
-use Rattle.header.proofs.Told.{answered, by-number, number-back, told-one}
-use Rattle.encoder.specs.Encoder.{View, view, createRules, newView, toldCreate}
+use Rattle.refusal.specs.Rules.{firstOf}
+use Rattle.refusal.proofs.Told.{by-number, number-back, told-checked, told-one}
+use Rattle.encoder.specs.Encoder.{EncoderView, encoderView, createRules, newView}
 use Rattle.encoder.specs.Frame.{afterFrame}
 use Rattle.encoder.specs.Calls.{CreateDone, FrameDone, HandsBack, NewState, Told, frameTold, headMemory, headTold, refuses, refuses-14, toldEncode, wrote}
-use Rattle.encoder.specs.declared.CreateAnswer as C
+use Rattle.refusal.specs.declared.Checked as C
 use Rattle.encoder.specs.declared.CreatedEncoder.{CreatedEncoder}
 use Rattle.encoder.specs.declared.EncodeAnswer as E
 use Rattle.encoder.specs.declared.EncodedBytes.{EncodedBytes}
 use Rattle.encoder.specs.declared.QoaEncoder.{QoaEncoder}
+use Rattle.refusal.specs.Refusals.{toldChecked}
 
 -- ---- what is told is one-to-one
-
-pub told-create : (a b : C.CreateAnswer) → toldCreate a ≡ toldCreate b → a ≡ b
-told-create = told-one toldCreate (answered (λ _. C.the-variants.Created) C.the-variants.Refused) (elim [ C.the-variants.Created ↦ refl | C.the-variants.Refused r ↦ ap C.the-variants.Refused (number-back r) ])
 
 -- the code's answer for what is told
 abbrev answerFor : Told → E.EncodeAnswer
@@ -33,32 +31,32 @@ told-encode = told-one toldEncode answerFor (elim [ E.the-variants.Written n ↦
 
 -- ---- new_encoder
 
-new-one : (o : Option ℕ) (v : View) (d e : QoaEncoder) → NewState o v d → NewState o v e → view d ≡ view e
+new-one : (o : Option ℕ) (v : EncoderView) (d e : QoaEncoder) → NewState o v d → NewState o v e → encoderView d ≡ encoderView e
 new-one none v d e p q = p ∙ sym q
-new-one (some n) v d e p q = ap view (p ∙ sym q)
+new-one (some n) v d e p q = ap encoderView (p ∙ sym q)
 
-pub create-settled : (c rate total : ℕ) (r s : CreatedEncoder) → CreateDone c rate total r → CreateDone c rate total s → (r .answer ≡ s .answer) × (view (r .state) ≡ view (s .state))
+pub create-settled : (c rate total : ℕ) (r s : CreatedEncoder) → CreateDone c rate total r → CreateDone c rate total s → (r .answer ≡ s .answer) × (encoderView (r .state) ≡ encoderView (s .state))
 create-settled c rate total r s p q =
-    (told-create (r .answer) (s .answer) (p .told ∙ sym (q .told)), new-one (firstOf (createRules c rate total)) (newView c rate total) (r .state) (s .state) (p .made) (q .made))
+    (told-checked (r .answer) (s .answer) (p .told ∙ sym (q .told)), new-one (firstOf (createRules c rate total)) (newView c rate total) (r .state) (s .state) (p .made) (q .made))
 
 -- ---- write_header
 
-pub head-settled : (v : View) (out : List ℕ) (r s : E.EncodeAnswer) (x y : List ℕ) → (toldEncode r ≡ headTold v (length out)) × (x ≡ headMemory v out)
+pub head-settled : (v : EncoderView) (out : List ℕ) (r s : E.EncodeAnswer) (x y : List ℕ) → (toldEncode r ≡ headTold v (length out)) × (x ≡ headMemory v out)
     → (toldEncode s ≡ headTold v (length out)) × (y ≡ headMemory v out) → (r ≡ s) × (x ≡ y)
 head-settled v out r s x y p q = (told-encode r s (p .0 ∙ sym (q .0)), p .1 ∙ sym (q .1))
 
 -- ---- encode_frame
 
 -- two states that are handed back mean the same
-pub back-one : (t : Told) (given : QoaEncoder) (next : View) (d e : QoaEncoder) → HandsBack t given next d → HandsBack t given next e → view d ≡ view e
+pub back-one : (t : Told) (given : QoaEncoder) (next : EncoderView) (d e : QoaEncoder) → HandsBack t given next d → HandsBack t given next e → encoderView d ≡ encoderView e
 back-one (wrote n) given next d e p q = p ∙ sym q
-back-one (refuses n) given next d e p q = ap view (p ∙ sym q)
-back-one (refuses-14 n j) given next d e p q = ap view (p ∙ sym q)
+back-one (refuses n) given next d e p q = ap encoderView (p ∙ sym q)
+back-one (refuses-14 n j) given next d e p q = ap encoderView (p ∙ sym q)
 
 pub frame-settled : (e : QoaEncoder) (samples : List ℤ) (out : List ℕ) (r s : EncodedBytes) (x y : List ℕ) → FrameDone e samples out r x → FrameDone e samples out s y
-    → (r .answer ≡ s .answer) × (x ≡ y) × (view (r .state) ≡ view (s .state))
+    → (r .answer ≡ s .answer) × (x ≡ y) × (encoderView (r .state) ≡ encoderView (s .state))
 frame-settled e samples out r s x y p q = (
   told-encode (r .answer) (s .answer) (p .told ∙ sym (q .told)),
   p .memory ∙ sym (q .memory),
-  back-one (frameTold (view e) samples (length out)) e (afterFrame (view e) samples) (r .state) (s .state) (p .back) (q .back),
+  back-one (frameTold (encoderView e) samples (length out)) e (afterFrame (encoderView e) samples) (r .state) (s .state) (p .back) (q .back),
 )

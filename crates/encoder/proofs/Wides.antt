@@ -8,11 +8,11 @@ use mathlib.Core.Logic.{⊎-elim}
 use native.Mathlib.Nat.{eq-or-lt-of-le, le-of-suc-le-suc, not-suc-le-zero}
 use native.Mathlib.Omega.{arith}
 use Rattle.wrap.proofs.Integers.{abs≤mag}
-use Rattle.lms.specs.Predictor.{at, WeightsWithin}
+use Rattle.lms.specs.Predictor.{at, allShort}
 use Rattle.lms.specs.declared.QoaLms.{QoaLms}
-use Rattle.header.specs.Predictor.{lmsOf}
-use Rattle.state.specs.States.{allShort}
-use Rattle.state.proofs.GoodStates.{short-fits}
+use Rattle.format.specs.Predictor.{lmsOf}
+use Rattle.lms.specs.Parts.{WeightsWithin}
+use Rattle.lms.proofs.Shorts.{short-fits}
 use Rattle.encoder.specs.Frame.{firstWide, orThen}
 
 pub short-within : (lms : QoaLms) → allShort (lms .weights) ≡ true → WeightsWithin 32768 lms

@@ -5,11 +5,11 @@ use mathlib.Core.List.{List, _++_}
 use mathlib.Core.Option.{Option, none, some}
 use lib.IntN.{ℤ}
 use lib.ListN.{length, drop}
-use Rattle.word.specs.Rules.{good, after, firstOf}
-use Rattle.header.specs.Format.{frameLength}
-use Rattle.header.specs.Refusals.{numberOf}
-use Rattle.encoder.specs.Encoder.{View, view, createRules, newView, toldCreate, zeroEncoder}
-use Rattle.encoder.specs.Frame.{afterFrame, firstWide, frameBytes, frameRules, perChannel}
+use Rattle.refusal.specs.Rules.{good, after, firstOf}
+use Rattle.format.specs.Format.{frameLength}
+use Rattle.refusal.specs.Refusals.{numberOf, toldChecked}
+use Rattle.encoder.specs.Encoder.{EncoderView, encoderView, createRules, newView, zeroEncoder}
+use Rattle.encoder.specs.Frame.{afterFrame, firstWide, frameBytes, encodeRules, perChannel}
 use Rattle.encoder.specs.Head.{headBytes, headRules}
 use Rattle.encoder.specs.declared.QoaEncoder.{QoaEncoder}
 use Rattle.encoder.specs.declared.CreatedEncoder.{CreatedEncoder}
@@ -38,45 +38,45 @@ abbrev pub onto : List ℕ → List ℕ → List ℕ
 onto out bytes = bytes ++ drop (length bytes) out
 
 -- on a refusal the state that was given, whole; else one that means the next
-abbrev pub HandsBack : Told → QoaEncoder → View → QoaEncoder → Type 0
-HandsBack (wrote n) given next back = view back ≡ next
+abbrev pub HandsBack : Told → QoaEncoder → EncoderView → QoaEncoder → Type 0
+HandsBack (wrote n) given next back = encoderView back ≡ next
 HandsBack (refuses n) given next back = back ≡ given
 HandsBack (refuses-14 count channel) given next back = back ≡ given
 
 -- ---- creation
 
 -- a new encoder; on a refusal all zero
-abbrev pub NewState : Option ℕ → View → QoaEncoder → Type 0
-NewState none v e = view e ≡ v
+abbrev pub NewState : Option ℕ → EncoderView → QoaEncoder → Type 0
+NewState none v e = encoderView e ≡ v
 NewState (some n) v e = e ≡ zeroEncoder
 
 pub record CreateDone (c rate total : ℕ) (r : CreatedEncoder) : Type 0 where
-  pub told : toldCreate (r .answer) ≡ after (createRules c rate total) (good tt)
+  pub told : toldChecked (r .answer) ≡ firstOf (createRules c rate total)
   pub made : NewState (firstOf (createRules c rate total)) (newView c rate total) (r .state)
 
 -- ---- the file header
 
-abbrev pub headTold : View → ℕ → Told
+abbrev pub headTold : EncoderView → ℕ → Told
 headTold v room = ifSome (firstOf (headRules v room)) refuses (wrote 8)
 
-abbrev pub headMemory : View → List ℕ → List ℕ
+abbrev pub headMemory : EncoderView → List ℕ → List ℕ
 headMemory v out = ifSome (firstOf (headRules v (length out))) (λ n. out) (onto out (headBytes (v .total)))
 
 -- ---- a frame
 
-unfoldable pub frameTold : View → List ℤ → ℕ → Told
+unfoldable pub frameTold : EncoderView → List ℤ → ℕ → Told
 frameTold v samples room =
-    ifSome (firstOf (frameRules v samples room)) refuses
+    ifSome (firstOf (encodeRules v samples room)) refuses
     (ifSome (firstWide (v .channels) (v .lms)) (refuses-14 0)
     (wrote (frameLength (v .channels) (perChannel v samples))))
 
-unfoldable pub frameMemory : View → List ℤ → List ℕ → List ℕ
+unfoldable pub frameMemory : EncoderView → List ℤ → List ℕ → List ℕ
 frameMemory v samples out =
-    ifSome (firstOf (frameRules v samples (length out))) (λ n. out)
+    ifSome (firstOf (encodeRules v samples (length out))) (λ n. out)
     (ifSome (firstWide (v .channels) (v .lms)) (λ j. out)
     (onto out (frameBytes v samples)))
 
 pub record FrameDone (e : QoaEncoder) (samples : List ℤ) (out : List ℕ) (r : EncodedBytes) (left : List ℕ) : Type 0 where
-  pub told : toldEncode (r .answer) ≡ frameTold (view e) samples (length out)
-  pub memory : left ≡ frameMemory (view e) samples out
-  pub back : HandsBack (frameTold (view e) samples (length out)) e (afterFrame (view e) samples) (r .state)
+  pub told : toldEncode (r .answer) ≡ frameTold (encoderView e) samples (length out)
+  pub memory : left ≡ frameMemory (encoderView e) samples out
+  pub back : HandsBack (frameTold (encoderView e) samples (length out)) e (afterFrame (encoderView e) samples) (r .state)

@@ -4,31 +4,27 @@ use mathlib.Core.Bool.{Bool, _&&_}
 use mathlib.Core.List.{List, [], _∷_}
 use lib.Dec.{eqb, leb, ltb}
 use lib.ListN.{replicate}
-use Rattle.word.specs.Rules.{Answer, good, refused, Rule, _gives_}
+use Rattle.refusal.specs.Rules.{Rule, _gives_}
 use Rattle.word.specs.Written.{table}
-use Rattle.lms.specs.Predictor.{newLms}
+use Rattle.lms.specs.Predictor.{newLms, historyRule, zeroLms}
 use Rattle.lms.specs.declared.QoaLms.{QoaLms}
-use Rattle.header.specs.Format.{maxChannels, mostRate}
-use Rattle.header.specs.Predictor.{lmsOf}
-use Rattle.header.specs.Refusals.{numberOf}
-use Rattle.state.specs.States.{below, historyRule}
-use Rattle.state.specs.Opening.{zeroLms}
+use Rattle.format.specs.Format.{maxChannels, mostRate}
+use Rattle.format.specs.Predictor.{lmsOf}
+use Rattle.word.specs.Below.{below}
 use Rattle.encoder.specs.declared.QoaEncoder.{QoaEncoder}
-use Rattle.encoder.specs.declared.CreateAnswer.{CreateAnswer}
-use Rattle.encoder.specs.declared.CreateAnswer.the-variants.{Created, Refused}
 
 -- the state without the unused channels
-pub record View : Type 0 where
+pub record EncoderView : Type 0 where
   pub channels : ℕ
   pub rate : ℕ
   pub total : ℕ
   pub lms : List QoaLms
 
-unfoldable pub view : QoaEncoder → View
-view e = record { channels = e .channels; rate = e .rate; total = e .total; lms = table (e .channels) (lmsOf (e .lms)) }
+unfoldable pub encoderView : QoaEncoder → EncoderView
+encoderView e = record { channels = e .channels; rate = e .rate; total = e .total; lms = table (e .channels) (lmsOf (e .lms)) }
 
 -- c 1..8, rate 1..16777215, total at least 1, used histories in 16 bits
-unfoldable pub goodEncoder : View → Bool
+unfoldable pub goodEncoder : EncoderView → Bool
 goodEncoder v =
     leb 1 (v .channels)
     && (leb (v .channels) maxChannels
@@ -49,14 +45,9 @@ createRules c rate total =
     ∷ (eqb total 0 gives 13)
     ∷ []
 
-unfoldable pub newView : ℕ → ℕ → ℕ → View
+unfoldable pub newView : ℕ → ℕ → ℕ → EncoderView
 newView c rate total = record { channels = c; rate = rate; total = total; lms = table c (λ j. newLms) }
 
 -- the state of a refusal: all zero
 unfoldable pub zeroEncoder : QoaEncoder
 zeroEncoder = record { channels = 0; rate = 0; total = 0; lms = replicate maxChannels zeroLms }
-
--- what the code's answer tells
-abbrev pub toldCreate : CreateAnswer → Answer (Unit {0})
-toldCreate Created = good tt
-toldCreate (Refused r) = refused (numberOf r)

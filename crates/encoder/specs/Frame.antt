@@ -7,50 +7,50 @@ use lib.Dec.{eqb, ltb}
 use lib.IntN.{ℤ}
 use lib.ListN.{length}
 use Rattle.word.specs.Bytes.{bytesOf}
-use Rattle.word.specs.Rules.{Rule, _gives_}
+use Rattle.refusal.specs.Rules.{Rule, _gives_}
 use Rattle.word.specs.Written.{table}
 use Rattle.lms.specs.declared.QoaLms.{QoaLms}
-use Rattle.header.specs.Format.{frameLength, slicesOf}
-use Rattle.header.specs.Header.{headerWord}
-use Rattle.header.specs.Predictor.{lmsOf}
-use Rattle.header.specs.declared.frame.FrameHeader.{FrameHeader}
-use Rattle.state.specs.States.{allShort}
+use Rattle.format.specs.Format.{frameLength, slicesOf}
+use Rattle.format.specs.Header.{headerWord}
+use Rattle.format.specs.Predictor.{lmsOf}
+use Rattle.format.specs.declared.frame.FrameHeader.{FrameHeader}
+use Rattle.lms.specs.Predictor.{allShort}
 use Rattle.search.specs.Search.{strided}
 use Rattle.body.specs.Channel.{lmsBefore, sliceWord, sumAt}
 use Rattle.body.specs.Laid.{laid, lmsBytes}
-use Rattle.encoder.specs.Encoder.{View, goodEncoder}
+use Rattle.encoder.specs.Encoder.{EncoderView, goodEncoder}
 
 -- ---- the samples, n of each of c channels, interleaved
 
-abbrev pub perChannel : View → List ℤ → ℕ
+abbrev pub perChannel : EncoderView → List ℤ → ℕ
 perChannel v samples = length samples / v .channels
 
 -- those of channel j
-abbrev pub channelOf : View → List ℤ → ℕ → List ℤ
+abbrev pub channelOf : EncoderView → List ℤ → ℕ → List ℤ
 channelOf v samples j = strided (perChannel v samples) samples j (v .channels)
 
 -- ---- the bytes
 
 -- the size field is the frame's length
-abbrev pub headerFor : View → ℕ → FrameHeader
+abbrev pub headerFor : EncoderView → ℕ → FrameHeader
 headerFor v n = record { channels = v .channels; rate = v .rate; samples = n; size = frameLength (v .channels) n }
 
-abbrev pub stateBytes : View → List ℕ
+abbrev pub stateBytes : EncoderView → List ℕ
 stateBytes v = laid (v .channels) (λ j. lmsBytes (lmsOf (v .lms) j))
 
 -- slice group g: one slice of each channel in turn
-abbrev pub groupBytes : View → List ℤ → ℕ → List ℕ
+abbrev pub groupBytes : EncoderView → List ℤ → ℕ → List ℕ
 groupBytes v samples g = laid (v .channels) (λ j. bytesOf 8 (sliceWord (lmsOf (v .lms) j) (channelOf v samples j) g))
 
 -- header, predictor states, slice groups
-unfoldable pub frameBytes : View → List ℤ → List ℕ
+unfoldable pub frameBytes : EncoderView → List ℤ → List ℕ
 frameBytes v samples =
     bytesOf 8 (headerWord (headerFor v (perChannel v samples)))
     ++ (stateBytes v
     ++ laid (slicesOf (perChannel v samples)) (groupBytes v samples))
 
 -- the state after it
-unfoldable pub afterFrame : View → List ℤ → View
+unfoldable pub afterFrame : EncoderView → List ℤ → EncoderView
 afterFrame v samples = record {
   channels = v .channels;
   rate = v .rate;
@@ -59,15 +59,15 @@ afterFrame v samples = record {
 }
 
 -- the writer's reconstruction, interleaved as the samples are
-unfoldable pub frameSums : View → List ℤ → List ℤ
+unfoldable pub frameSums : EncoderView → List ℤ → List ℤ
 frameSums v samples =
     table (perChannel v samples * v .channels) (λ k. sumAt (lmsOf (v .lms) (k % v .channels)) (channelOf v samples (k % v .channels)) (k / v .channels))
 
 -- ---- the refusals
 
 -- 8; 13: empty, not a multiple of channels, or over 5120 per channel; 7
-unfoldable pub frameRules : View → List ℤ → ℕ → List Rule
-frameRules v samples room =
+unfoldable pub encodeRules : EncoderView → List ℤ → ℕ → List Rule
+encodeRules v samples room =
     (not (goodEncoder v) gives 8)
     ∷ (eqb (length samples) 0 gives 13)
     ∷ (not (eqb (length samples % v .channels) 0) gives 13)

@@ -5,8 +5,8 @@ use mathlib.Core.List.{List}
 use mathlib.Core.Option.{Option, none, some}
 use lib.IntN.{ℤ}
 use lib.ListN.{length}
-use Rattle.header.specs.Format.{maxChannels, mostRate}
-use Rattle.encoder.specs.Encoder.{View}
+use Rattle.format.specs.Format.{maxChannels, mostRate}
+use Rattle.encoder.specs.Encoder.{EncoderView}
 use Rattle.encoder.specs.Frame.{firstWide, perChannel}
 use Rattle.encoder.specs.declared.Wide.{Wide}
 use Rattle.encoder.specs.declared.Wide.the-variants.{Nowhere, At}
@@ -16,7 +16,7 @@ toldWide Nowhere = none
 toldWide (At j) = some j
 
 -- a frame that no rule refuses, but for the room
-pub record FrameFits (v : View) (samples : List ℤ) : Type 0 where
+pub record FrameFits (v : EncoderView) (samples : List ℤ) : Type 0 where
   pub some-channels : 0 < v .channels
   pub few-channels : v .channels ≤ maxChannels
   pub rate-fits : v .rate ≤ mostRate

@@ -1,19 +1,18 @@
 // A new encoder.
 ghost use mathlib.Core.Path.{_≡_};
-ghost use Rattle.word.specs.Rules.{firstOf};
-ghost use Rattle.header.specs.Refusals.{toldChecked};
-ghost use Rattle.encoder.specs.Encoder.{createRules, newView, view, zeroEncoder};
+ghost use Rattle.refusal.specs.Rules.{firstOf};
+ghost use Rattle.refusal.specs.Refusals.{toldChecked};
+ghost use Rattle.encoder.specs.Encoder.{createRules, newView, encoderView, zeroEncoder};
 ghost use Prim.Native.Nat.{_≤_};
-ghost use Rattle.header.specs.Format.{maxChannels};
+ghost use Rattle.format.specs.Format.{maxChannels};
 ghost use Rattle.encoder.specs.Calls.{CreateDone};
-use crate::CreateAnswer;
 use crate::CreatedEncoder;
 use crate::QoaEncoder;
-use header::frame::QOA_MAX_CHANNELS;
-use header::refusal::Checked;
-use header::refusal::Refusal;
+use format::frame::QOA_MAX_CHANNELS;
+use format::frame::QOA_MOST_RATE;
 use lms::QoaLms;
-use state::rules::QOA_MOST_RATE;
+use refusal::Checked;
+use refusal::Refusal;
 
 // The refusals of a creation, in document 01's order.
 fn check_create(channels: u8, rate: u32, total: u32) -> Checked
@@ -56,7 +55,7 @@ fn zero_encoder() -> QoaEncoder
 // Every predictor is new, those of the unused channels too.
 fn fresh_encoder(channels: u8, rate: u32, total: u32) -> QoaEncoder
     requires { ⌜ channels ≤ maxChannels ⌝ }
-    ensures { λ r. ⌜ view r ≡ newView channels rate total ⌝ }
+    ensures { λ r. ⌜ encoderView r ≡ newView channels rate total ⌝ }
 {
     let lms = lms::new_lms();
     QoaEncoder {
@@ -73,11 +72,11 @@ pub fn new_encoder(channels: u8, rate: u32, total: u32) -> CreatedEncoder
 {
     match check_create(channels, rate, total) {
         Checked::Refused(r) => CreatedEncoder {
-            answer: CreateAnswer::Refused(r),
+            answer: Checked::Refused(r),
             state: zero_encoder(),
         },
         Checked::Passed => CreatedEncoder {
-            answer: CreateAnswer::Created,
+            answer: Checked::Passed,
             state: fresh_encoder(channels, rate, total),
         },
     }

@@ -3,11 +3,11 @@ ghost use mathlib.Core.Path.{_≡_};
 ghost use mathlib.Core.Option.{none};
 ghost use Prim.Native.Nat.{_+_, _≤_};
 ghost use lib.ListN.{length};
-ghost use Rattle.word.specs.Rules.{firstOf};
-ghost use Rattle.header.specs.Format.{frameLength};
-ghost use Rattle.header.specs.Refusals.{toldChecked};
-ghost use Rattle.encoder.specs.Encoder.{view};
-ghost use Rattle.encoder.specs.Frame.{afterFrame, frameBytes, frameRules, perChannel};
+ghost use Rattle.refusal.specs.Rules.{firstOf};
+ghost use Rattle.format.specs.Format.{frameLength};
+ghost use Rattle.refusal.specs.Refusals.{toldChecked};
+ghost use Rattle.encoder.specs.Encoder.{encoderView};
+ghost use Rattle.encoder.specs.Frame.{afterFrame, frameBytes, encodeRules, perChannel};
 ghost use Rattle.body.specs.Laid.{overlaid};
 ghost use Rattle.encoder.specs.Parts.{FrameFits};
 ghost use Rattle.encoder.specs.Calls.{FrameDone};
@@ -19,18 +19,18 @@ use crate::rules::first_wide;
 use crate::rules::is_good_encoder;
 use body::put_groups;
 use body::put_states;
-use header::frame::FrameHeader;
-use header::frame::QOA_FRAME_LEN;
-use header::frame::QOA_HEADER_SIZE;
-use header::frame::frame_length;
-use header::frame::header_word;
-use header::frame::state_end;
-use header::refusal::Checked;
-use header::refusal::Refusal;
+use format::frame::FrameHeader;
+use format::frame::QOA_FRAME_LEN;
+use format::frame::QOA_HEADER_SIZE;
+use format::frame::frame_length;
+use format::frame::header_word;
+use format::frame::state_end;
+use refusal::Checked;
+use refusal::Refusal;
 
 // The refusals of a frame but for 14, in document 01's order.
 fn check_frame(e: QoaEncoder, samples: &[i16], room: usize) -> Checked
-    ensures { λ r. ⌜ toldChecked r ≡ firstOf (frameRules (view e) (now (samples .entry)) room) ⌝ }
+    ensures { λ r. ⌜ toldChecked r ≡ firstOf (encodeRules (encoderView e) (now (samples .entry)) room) ⌝ }
 {
     if !is_good_encoder(e) {
         return Checked::Refused(Refusal::BadState);
@@ -54,10 +54,10 @@ fn check_frame(e: QoaEncoder, samples: &[i16], room: usize) -> Checked
 
 // Stores a frame from a place on, and hands back the state after it.
 pub fn put_frame(e: QoaEncoder, samples: &[i16], out: &mut [u8], at: usize) -> QoaEncoder
-    requires { ⌜ FrameFits (view e) (now samples) ⌝ }
-    requires { ⌜ at + frameLength (e .channels) (perChannel (view e) (now samples)) ≤ length (now out) ⌝ }
-    ensures state { λ r. ⌜ view r ≡ afterFrame (view e) (now (samples .entry)) ⌝ }
-    ensures bytes { λ r. ⌜ now (out .exit) ≡ overlaid (now (out .entry)) at (frameBytes (view e) (now (samples .entry))) ⌝ }
+    requires { ⌜ FrameFits (encoderView e) (now samples) ⌝ }
+    requires { ⌜ at + frameLength (e .channels) (perChannel (encoderView e) (now samples)) ≤ length (now out) ⌝ }
+    ensures state { λ r. ⌜ encoderView r ≡ afterFrame (encoderView e) (now (samples .entry)) ⌝ }
+    ensures bytes { λ r. ⌜ now (out .exit) ≡ overlaid (now (out .entry)) at (frameBytes (encoderView e) (now (samples .entry))) ⌝ }
 {
     let channels = e.channels as usize;
     let n = samples.len() / channels;
@@ -81,7 +81,7 @@ pub fn put_frame(e: QoaEncoder, samples: &[i16], out: &mut [u8], at: usize) -> Q
 
 // A frame that nothing but 14 refuses.
 fn encode_checked(e: QoaEncoder, samples: &[i16], out: &mut [u8]) -> EncodedBytes
-    requires { ⌜ firstOf (frameRules (view e) (now samples) (length (now out))) ≡ none ⌝ }
+    requires { ⌜ firstOf (encodeRules (encoderView e) (now samples) (length (now out))) ≡ none ⌝ }
     ensures { λ r. ⌜ FrameDone e (now (samples .entry)) (now (out .entry)) r (now (out .exit)) ⌝ }
 {
     let channels = e.channels as usize;

@@ -2,15 +2,15 @@
 ghost use mathlib.Core.Path.{_≡_};
 ghost use Prim.Native.Nat.{_≤_};
 ghost use lib.ListN.{length};
-ghost use Rattle.encoder.specs.Encoder.{view};
+ghost use Rattle.encoder.specs.Encoder.{encoderView};
 ghost use Rattle.encoder.specs.Head.{headBytes};
 ghost use Rattle.encoder.specs.Calls.{headMemory, headTold, onto, toldEncode};
 use crate::EncodeAnswer;
 use crate::QoaEncoder;
 use crate::rules::is_good_encoder;
-use header::file::file_word;
-use header::frame::QOA_HEADER_SIZE;
-use header::refusal::Refusal;
+use format::file::file_word;
+use format::frame::QOA_HEADER_SIZE;
+use refusal::Refusal;
 
 // Stores `qoaf` and the total at the start of the output.
 pub fn put_head(total: u32, out: &mut [u8])
@@ -22,7 +22,7 @@ pub fn put_head(total: u32, out: &mut [u8])
 
 // The file header: 8, then 7.
 pub fn write_header(e: QoaEncoder, out: &mut [u8]) -> EncodeAnswer
-    ensures { λ r. ⌜ (toldEncode r ≡ headTold (view e) (length (now (out .entry)))) × (now (out .exit) ≡ headMemory (view e) (now (out .entry))) ⌝ }
+    ensures { λ r. ⌜ (toldEncode r ≡ headTold (encoderView e) (length (now (out .entry)))) × (now (out .exit) ≡ headMemory (encoderView e) (now (out .entry))) ⌝ }
 {
     if !is_good_encoder(e) {
         return EncodeAnswer::Refused(Refusal::BadState);

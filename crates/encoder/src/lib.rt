@@ -1,7 +1,7 @@
 // The encoder: a state by value, and the calls on it with lent samples and lent output.
-use header::frame::QOA_MAX_CHANNELS;
-use header::refusal::Refusal;
+use format::frame::QOA_MAX_CHANNELS;
 use lms::QoaLms;
+use refusal::Refusal;
 
 pub mod create;
 pub mod frame;
@@ -11,6 +11,7 @@ pub mod rules;
 pub use create::new_encoder;
 pub use frame::encode_frame;
 pub use head::write_header;
+use refusal::Checked;
 pub use rules::is_good_encoder;
 
 pub struct QoaEncoder {
@@ -21,14 +22,8 @@ pub struct QoaEncoder {
     pub lms: [QoaLms; QOA_MAX_CHANNELS],
 }
 
-// A new encoder; where it is refused the state is all zero.
-pub enum CreateAnswer {
-    Created,
-    Refused(Refusal),
-}
-
 pub struct CreatedEncoder {
-    pub answer: CreateAnswer,
+    pub answer: Checked,
     pub state: QoaEncoder,
 }
 

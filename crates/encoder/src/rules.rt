@@ -1,18 +1,19 @@
 // The state rules of an encoder, and the range of its weights.
 ghost use mathlib.Core.Path.{_≡_};
 ghost use Prim.Native.Nat.{_≤_};
-ghost use Rattle.header.specs.Format.{maxChannels};
-ghost use Rattle.header.specs.Predictor.{lmsOf};
-ghost use Rattle.state.specs.States.{below, historyRule};
-ghost use Rattle.encoder.specs.Encoder.{goodEncoder, view};
+ghost use Rattle.format.specs.Format.{maxChannels};
+ghost use Rattle.format.specs.Predictor.{lmsOf};
+ghost use Rattle.word.specs.Below.{below};
+ghost use Rattle.encoder.specs.Encoder.{goodEncoder, encoderView};
 ghost use Rattle.encoder.specs.Frame.{firstWide};
 ghost use Rattle.encoder.specs.Parts.{toldWide};
 use crate::QoaEncoder;
 use crate::Wide;
-use header::frame::QOA_MAX_CHANNELS;
+use format::frame::QOA_MAX_CHANNELS;
+use format::frame::QOA_MOST_RATE;
 use lms::QoaLms;
-use state::rules::QOA_MOST_RATE;
-use state::rules::are_short;
+use lms::are_short;
+ghost use Rattle.lms.specs.Predictor.{historyRule};
 
 // The histories of the used channels are in 16 bits.
 fn are_good_histories(states: [QoaLms; QOA_MAX_CHANNELS], channels: usize) -> bool
@@ -31,7 +32,7 @@ fn are_good_histories(states: [QoaLms; QOA_MAX_CHANNELS], channels: usize) -> bo
 
 // All of the state rules.
 pub fn is_good_encoder(e: QoaEncoder) -> bool
-    ensures { λ r. ⌜ r ≡ goodEncoder (view e) ⌝ }
+    ensures { λ r. ⌜ r ≡ goodEncoder (encoderView e) ⌝ }
 {
     if e.channels == 0 {
         return false;

@@ -1,11 +1,5 @@
--- Laws for the crates above.
-pub mod Frames
-pub mod Walks
-pub mod Accepted
-pub mod Decoded
-pub mod Tails
-pub mod Streamed
-pub mod Refusals
-pub mod Needs
-pub mod Examples
-pub mod Places
+-- What the proofs of this crate and of those above it cite.
+pub mod Headers
+pub mod FileHeaders
+pub mod Parts
+pub mod Lasting

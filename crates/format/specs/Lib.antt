@@ -1,5 +1,9 @@
--- What the contracts cite, from a frame up.
-pub mod Frame
-pub mod Walk
-pub mod Reader
-pub mod Streaming
+-- What the contracts cite, in document 01's order.
+pub mod Format
+pub mod FileHeader
+pub mod Header
+pub mod Predictor
+pub mod Part
+pub mod Facts
+pub mod Grammar
+pub mod Parts

@@ -1,1 +1,30 @@
-// What a whole file and a run of frames hold, in specs/, and what follows from it, in proofs/. There is no code.
+// The structure of a QOA file: its headers, the frame part, the facts record.
+pub mod facts;
+pub mod file;
+pub mod frame;
+pub mod part;
+
+pub use facts::Facts;
+pub use facts::facts_of;
+pub use file::file_header;
+pub use file::file_word;
+pub use frame::FrameHeader;
+pub use frame::HeaderAnswer;
+pub use frame::QOA_FRAME_LEN;
+pub use frame::QOA_HEADER_SIZE;
+pub use frame::QOA_MAX_CHANNELS;
+pub use frame::QOA_MOST_BYTES;
+pub use frame::QOA_MOST_RATE;
+pub use frame::QOA_SLICE_LEN;
+pub use frame::QOA_SLICES_PER_FRAME;
+pub use frame::bytes_left;
+pub use frame::check_header;
+pub use frame::frame_length;
+pub use frame::header_at;
+pub use frame::header_fields;
+pub use frame::header_word;
+pub use frame::read_header;
+pub use frame::slices_of;
+pub use frame::state_end;
+pub use part::frame_part;
+pub use part::part_length;

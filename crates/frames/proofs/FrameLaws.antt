@@ -11,21 +11,21 @@ use borrow.Author.Tests.{le-ltb, lt-ltb}
 use lib.Dec.{ltb}
 use lib.ListN.{length}
 use lib.Seq.{ext-getD}
-use Rattle.word.specs.Rules.{Rule, firstOf}
+use Rattle.refusal.specs.Rules.{Rule, firstOf}
 use Rattle.word.specs.Written.{table, written}
-use Rattle.word.proofs.Rules.{fires, fires-left, fires-right, none-fires, quiet, quiet-parts}
+use Rattle.refusal.proofs.Rules.{fires, fires-left, fires-right, none-fires, quiet, quiet-parts}
 use Rattle.word.proofs.Tests.{tests}
 use Rattle.lms.specs.declared.QoaLms.{QoaLms}
-use Rattle.header.specs.Format.{maxChannels, slicesOf, stateEnd}
-use Rattle.header.specs.Grammar.{tailOk}
-use Rattle.header.specs.Header.{headerAt, headerRules, leftAt}
-use Rattle.header.specs.Part.{cutRules}
-use Rattle.header.specs.Predictor.{lmsAt, noLms}
-use Rattle.header.specs.Refusals.{numberOf}
-use Rattle.header.proofs.Headers.{passes}
-use Rattle.header.specs.declared.frame.FrameHeader.{FrameHeader}
-use Rattle.header.specs.declared.refusal.Refusal.{Refusal}
-use Rattle.header.specs.declared.refusal.Refusal.the-variants.{BadState, Truncated}
+use Rattle.format.specs.Format.{maxChannels, slicesOf, stateEnd}
+use Rattle.format.specs.Grammar.{tailOk}
+use Rattle.format.specs.Header.{headerAt, headerRules, leftAt}
+use Rattle.format.specs.Part.{cutRules}
+use Rattle.format.specs.Predictor.{lmsAt, noLms}
+use Rattle.refusal.specs.Refusals.{numberOf}
+use Rattle.format.proofs.Headers.{passes}
+use Rattle.format.specs.declared.frame.FrameHeader.{FrameHeader}
+use Rattle.refusal.specs.declared.Refusal.{Refusal}
+use Rattle.refusal.specs.declared.Refusal.the-variants.{BadState, Truncated}
 use Rattle.groups.specs.Channel.{runAfter}
 use Rattle.groups.specs.Groups.{groupsStates}
 use Rattle.groups.proofs.GroupLaws.{groups-lms, groups-other, length-groups}
@@ -36,10 +36,11 @@ use Rattle.state.specs.declared.ProcessingMode.{ProcessingMode}
 use Rattle.state.specs.declared.ProcessingMode.the-variants.{FixedSamples, Streaming}
 use Rattle.state.proofs.Views.{stored-lms}
 use Rattle.into.specs.Into.{groupsEnd}
-use Rattle.frames.specs.Frames.{EnterDone, NextDone, a-frame, dropped, enterRules, entered, enteredOr, foundAt, frameRules, modeRules, nextRules}
+use Rattle.frames.specs.Frames.{NextDone, a-frame, dropped, enterRules, entered, enteredOr, foundAt, frameRules, modeRules, nextRules}
 use Rattle.frames.specs.declared.NextFrame.{NextFrame}
 use Rattle.frames.specs.declared.FrameAnswer.the-variants.{Frame, End, Refused}
 use Rattle.into.proofs.Coming.{lms-after}
+use Rattle.frames.specs.Parts.{EnterDone}
 use Rattle.into.proofs.Taken as T
 
 -- no group leaves the predictors as they are

@@ -2,8 +2,8 @@
 use mathlib.Core.Path.{_≡_, refl, ap, sym, _∙_}
 use mathlib.Core.List.{List}
 use Prim.Native.Nat.{ℕ}
-use Rattle.word.specs.Rules.{firstOf}
-use Rattle.header.proofs.Told.{answered, number-back, told-one}
+use Rattle.refusal.specs.Rules.{firstOf}
+use Rattle.refusal.proofs.Told.{answered, number-back, told-one}
 use Rattle.state.specs.View.{view}
 use Rattle.state.specs.declared.QoaDecoder.{QoaDecoder}
 use Rattle.into.proofs.Settled.{leaves-one}

@@ -5,15 +5,15 @@ use mathlib.Core.Bool.{true, not, cond}
 use mathlib.Core.List.{List, [], _∷_, _++_}
 use lib.Dec.{eqb, ltb}
 use lib.ListN.{length}
-use Rattle.word.specs.Rules.{Answer, good, refused, Rule, _gives_, after, firstOf}
+use Rattle.refusal.specs.Rules.{Answer, good, refused, Rule, _gives_, after, firstOf}
 use Rattle.word.specs.Written.{table}
-use Rattle.header.specs.Format.{slicesOf, stateEnd}
-use Rattle.header.specs.Grammar.{tailOk}
-use Rattle.header.specs.Header.{headerAt, headerRules, leftAt}
-use Rattle.header.specs.Part.{cutRules}
-use Rattle.header.specs.Predictor.{lmsAt}
-use Rattle.header.specs.Refusals.{numberOf}
-use Rattle.header.specs.declared.frame.FrameHeader.{FrameHeader}
+use Rattle.format.specs.Format.{slicesOf, stateEnd}
+use Rattle.format.specs.Grammar.{tailOk}
+use Rattle.format.specs.Header.{headerAt, headerRules, leftAt}
+use Rattle.format.specs.Part.{cutRules}
+use Rattle.format.specs.Predictor.{lmsAt}
+use Rattle.refusal.specs.Refusals.{numberOf}
+use Rattle.format.specs.declared.frame.FrameHeader.{FrameHeader}
 use Rattle.state.specs.View.{View, channelsOf, factsIn, view}
 use Rattle.state.specs.States.{goodState}
 use Rattle.state.specs.declared.QoaDecoder.{QoaDecoder}
@@ -108,11 +108,6 @@ abbrev pub toldFrame : FrameAnswer → Answer Found
 toldFrame (Frame f) = good (a-frame f)
 toldFrame End = good no-frame
 toldFrame (Refused r) = refused (numberOf r)
-
--- what is found at the place of a view that the state d has come to: the answer by the rules there, and the state
-pub record EnterDone (bs : List ℕ) (d : QoaDecoder) (v : View) (r : NextFrame) : Type 0 where
-  pub told : toldFrame (r .answer) ≡ after (enterRules bs v) (good (foundAt bs v))
-  pub left : Leaves (firstOf (enterRules bs v)) d (enteredOr bs v) (r .state)
 
 -- what the call promises: its answer and its state
 pub record NextDone (bs : List ℕ) (d : QoaDecoder) (r : NextFrame) : Type 0 where

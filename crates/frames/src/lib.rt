@@ -3,27 +3,29 @@ ghost use mathlib.Core.Path.{_≡_};
 ghost use mathlib.Core.Bool.{true};
 ghost use Prim.Native.Nat.{_+_, _*_, _^_, _≤_};
 ghost use lib.ListN.{length};
-ghost use Rattle.word.specs.Rules.{firstOf};
-ghost use Rattle.header.specs.Format.{maxChannels, slicesOf, stateEnd};
-ghost use Rattle.header.specs.Header.{headerAt};
-ghost use Rattle.header.specs.Refusals.{toldChecked};
-ghost use Rattle.groups.specs.Groups.{AllWithin, groupsStates};
+ghost use Rattle.refusal.specs.Rules.{firstOf};
+ghost use Rattle.format.specs.Format.{maxChannels, slicesOf, stateEnd};
+ghost use Rattle.format.specs.Header.{headerAt};
+ghost use Rattle.refusal.specs.Refusals.{toldChecked};
+ghost use Rattle.groups.specs.Groups.{groupsStates};
 ghost use Rattle.state.specs.View.{View, view};
 ghost use Rattle.state.specs.States.{goodState};
 ghost use Rattle.into.specs.Into.{groupsEnd};
-ghost use Rattle.frames.specs.Frames.{EnterDone, NextDone, dropped, entered, frameRules, modeRules};
+ghost use Rattle.frames.specs.Frames.{NextDone, dropped, entered, frameRules, modeRules};
 ghost use Rattle.frames.specs.declared.FrameAnswer.the-variants.{Refused};
-use header::frame::FrameHeader;
-use header::frame::QOA_HEADER_SIZE;
-use header::frame::QOA_MAX_CHANNELS;
-use header::frame::QOA_SLICE_LEN;
-use header::refusal::Checked;
-use header::refusal::Refusal;
+use format::frame::FrameHeader;
+use format::frame::QOA_HEADER_SIZE;
+use format::frame::QOA_MAX_CHANNELS;
+use format::frame::QOA_SLICE_LEN;
 use lms::QoaLms;
+use refusal::Checked;
+use refusal::Refusal;
 use state::FrameFacts;
 use state::PENDING;
 use state::ProcessingMode;
 use state::QoaDecoder;
+ghost use Rattle.groups.specs.Parts.{AllWithin};
+ghost use Rattle.frames.specs.Parts.{EnterDone};
 
 // The next frame, or the end.
 pub enum FrameAnswer {
@@ -79,7 +81,7 @@ fn drop_rest(d: QoaDecoder, bytes: &[u8]) -> QoaDecoder
     let frame = d.frame;
     let channels = frame.channels as usize;
     let at = d.at;
-    let slices = header::slices_of(d.remaining as usize);
+    let slices = format::slices_of(d.remaining as usize);
     let states = d.lms;
     let run = run_groups(states, bytes, at, channels, slices);
     let mut state = d;
@@ -118,13 +120,13 @@ fn check_mode(mode: ProcessingMode, h: FrameHeader) -> Checked
 fn check_frame(mode: ProcessingMode, h: FrameHeader, left: usize) -> Checked
     ensures { λ r. ⌜ toldChecked r ≡ firstOf (frameRules mode h left) ⌝ }
 {
-    match header::check_header(h) {
+    match format::check_header(h) {
         Checked::Refused(r) => Checked::Refused(r),
         Checked::Passed => {
             match check_mode(mode, h) {
                 Checked::Refused(r) => Checked::Refused(r),
                 Checked::Passed => {
-                    if left < header::state_end(h.channels as usize) {
+                    if left < format::state_end(h.channels as usize) {
                         Checked::Refused(Refusal::Truncated)
                     } else {
                         Checked::Passed
@@ -145,7 +147,7 @@ fn start_frame(d: QoaDecoder, bytes: &[u8], place: usize, h: FrameHeader) -> Qoa
     let lms = predictors::read_states(bytes, place + QOA_HEADER_SIZE, channels, states);
     let frame = state::frame_facts(h);
     let mut state = d;
-    state.at = place + header::state_end(channels);
+    state.at = place + format::state_end(channels);
     state.frame = frame;
     state.remaining = h.samples;
     state.next = 0;
@@ -160,7 +162,7 @@ pub fn enter_frame(d: QoaDecoder, bytes: &[u8], place: usize) -> NextFrame
     requires { ⌜ place + 8 ≤ length (now bytes) ⌝ }
     ensures { λ r. ⌜ ((v : View) → v .mode ≡ d .mode → v .at ≡ place → EnterDone (now (bytes .entry)) d v r) ⌝ }
 {
-    let h = header::read_header(bytes, place);
+    let h = format::read_header(bytes, place);
     let mode = d.mode;
     match check_frame(mode, h, bytes.len() - place) {
         Checked::Refused(r) => NextFrame {
@@ -194,7 +196,7 @@ pub fn next_frame(d: QoaDecoder, bytes: &[u8]) -> NextFrame
     let frame = d.frame;
     let channels = frame.channels as usize;
     let at = d.at;
-    let slices = header::slices_of(d.remaining as usize);
+    let slices = format::slices_of(d.remaining as usize);
     let place = at + 8 * (slices * channels);
     if bytes.len() < place {
         return refused_frame(d, Refusal::Truncated);

@@ -4,12 +4,12 @@ use Prim.Native.Nat.{ℕ, zero, suc, _<_, _/_, _%_}
 use lib.Dec.{lit<}
 use mir.Syntax.{w16}
 use mir.Val.{SFits}
-use Rattle.lms.specs.Predictor.{HistoryFits}
+use Rattle.lms.specs.Parts.{HistoryFits}
 use Rattle.lms.specs.declared.QoaLms.{QoaLms}
-use Rattle.header.specs.Predictor.{lmsOf}
+use Rattle.format.specs.Predictor.{lmsOf}
 use Rattle.slice.proofs.Fits.{sample-at-fits, state-fits}
 use Rattle.groups.specs.Channel.{channelAt, runAfter}
-use Rattle.groups.specs.Groups.{groupsAt, groupsStates, sliceWord}
+use Rattle.groups.specs.Groups.{groupsAt, groupsStates, wordAt}
 use Rattle.groups.proofs.GroupLaws.{groups-each}
 
 -- ---- histories
@@ -22,7 +22,7 @@ run-fits words f (suc g) = state-fits (words g) (run-fits words f g) 20
 pub groups-fits : (bs : List ℕ) (p c : ℕ) (states : List QoaLms) (g : ℕ)
     → ((j : ℕ) → j < c → HistoryFits (lmsOf states j)) → (j : ℕ) → j < c → HistoryFits (lmsOf (groupsStates bs p c states g) j)
 groups-fits bs p c states g f =
-    groups-each bs p c states g HistoryFits (record { fit = λ i. record { sfits = lit< tt } }) (λ j h. run-fits (sliceWord bs p c j) (f j h) g)
+    groups-each bs p c states g HistoryFits (record { fit = λ i. record { sfits = lit< tt } }) (λ j h. run-fits (wordAt bs p c j) (f j h) g)
 
 -- ---- samples
 
@@ -32,4 +32,4 @@ channel-at-fits words s k = sample-at-fits (words (k / 20)) (runAfter words s (k
 
 pub groups-at-fits : (bs : List ℕ) (p c : ℕ) (states : List QoaLms) (k : ℕ) → SFits w16 (groupsAt bs p c states k)
 unfolding groupsAt
-groups-at-fits bs p c states k = channel-at-fits (sliceWord bs p c (k % c)) (lmsOf states (k % c)) (k / c)
+groups-at-fits bs p c states k = channel-at-fits (wordAt bs p c (k % c)) (lmsOf states (k % c)) (k / c)

@@ -10,34 +10,35 @@ use lib.IntN.{ℤ}
 use lib.ListN.{length, List·getD-eq-default}
 use lib.Seq.{ext-getD}
 use Rattle.word.specs.Bytes.{be64}
-use Rattle.word.specs.Written.{interleaved, written}
+use Rattle.word.specs.Written.{written}
 use Rattle.word.proofs.Writes.{interleaved-flat, length-written, written-at, written-other}
 use Rattle.lms.specs.declared.QoaLms.{QoaLms}
-use Rattle.header.specs.Predictor.{lmsOf, noLms}
+use Rattle.format.specs.Predictor.{lmsOf, noLms}
 use Rattle.groups.specs.Channel.{channelAt, runAfter}
-use Rattle.groups.specs.Groups.{groupsAt, groupsStates, sliceWord}
+use Rattle.groups.specs.Groups.{groupsAt, groupsStates, wordAt}
 use Rattle.groups.proofs.Runs.{channel-shift, run-more}
+use Rattle.word.specs.Parts.{interleaved}
 
 -- ---- the predictors, by channel
 
 module _ (bs : List ℕ) (p c : ℕ) (states : List QoaLms) (g : ℕ) where
   pub length-groups : length (groupsStates bs p c states g) ≡ length states
   unfolding groupsStates
-  length-groups = length-written (λ j. runAfter (sliceWord bs p c j) (lmsOf states j) g) states 0 1 c
+  length-groups = length-written (λ j. runAfter (wordAt bs p c j) (lmsOf states j) g) states 0 1 c
 
   -- that of a used channel has run over its slices
-  pub groups-lms : (j : ℕ) → j < c → j < length states → lmsOf (groupsStates bs p c states g) j ≡ runAfter (sliceWord bs p c j) (lmsOf states j) g
+  pub groups-lms : (j : ℕ) → j < c → j < length states → lmsOf (groupsStates bs p c states g) j ≡ runAfter (wordAt bs p c j) (lmsOf states j) g
   unfolding groupsStates
   groups-lms j h room =
-      rw (zero-add, mul-one) at (written-at (λ j. runAfter (sliceWord bs p c j) (lmsOf states j) g) states 0 1 c j noLms (omega arith) h (omega (arith, mul-one j)))
+      rw (zero-add, mul-one) at (written-at (λ j. runAfter (wordAt bs p c j) (lmsOf states j) g) states 0 1 c j noLms (omega arith) h (omega (arith, mul-one j)))
 
   -- any other is as it was
   pub groups-other : (j : ℕ) → c ≤ j → lmsOf (groupsStates bs p c states g) j ≡ lmsOf states j
   unfolding groupsStates
-  groups-other j h = written-other (λ j. runAfter (sliceWord bs p c j) (lmsOf states j) g) states 0 1 c j noLms (λ i l e. omega (arith, mul-one i))
+  groups-other j h = written-other (λ j. runAfter (wordAt bs p c j) (lmsOf states j) g) states 0 1 c j noLms (λ i l e. omega (arith, mul-one i))
 
   -- what holds of a predictor after its slices, and of none at all, holds of every used channel's
-  pub groups-each : (P : QoaLms → Type 0) → P noLms → ((j : ℕ) → j < c → P (runAfter (sliceWord bs p c j) (lmsOf states j) g))
+  pub groups-each : (P : QoaLms → Type 0) → P noLms → ((j : ℕ) → j < c → P (runAfter (wordAt bs p c j) (lmsOf states j) g))
       → (j : ℕ) → j < c → P (lmsOf (groupsStates bs p c states g) j)
   groups-each P none run j h =
       dite (decLt j (length states))
@@ -48,13 +49,13 @@ module _ (bs : List ℕ) (p c : ℕ) (states : List QoaLms) (g : ℕ) where
 
 -- each channel's stores, interleaved, are the groups' samples in a row, also where there is no channel
 pub groups-flat : (bs : List ℕ) (p c : ℕ) (states : List QoaLms) (out : List ℤ) (start n : ℕ) → start + n * c ≤ length out
-    → interleaved (λ j. channelAt (sliceWord bs p c j) (lmsOf states j)) out start c n c ≡ written (groupsAt bs p c states) out start 1 (n * c)
+    → interleaved (λ j. channelAt (wordAt bs p c j) (lmsOf states j)) out start c n c ≡ written (groupsAt bs p c states) out start 1 (n * c)
 unfolding groupsAt interleaved written
 groups-flat bs p zero states out start n room = rw mul-zero
-groups-flat bs p (suc c) states out start n room = interleaved-flat (λ j. channelAt (sliceWord bs p (suc c) j) (lmsOf states j)) out start (suc c) n (omega arith) room
+groups-flat bs p (suc c) states out start n room = interleaved-flat (λ j. channelAt (wordAt bs p (suc c) j) (lmsOf states j)) out start (suc c) n (omega arith) room
 
 -- the words of channel j, whose first slice is at p + 8 j
-pub words-at : (bs : List ℕ) (p c j : ℕ) → _≡_ {A = ℕ → ℕ} (λ g. be64 bs (p + 8 * j + 8 * (g * c))) (sliceWord bs p c j)
+pub words-at : (bs : List ℕ) (p c j : ℕ) → _≡_ {A = ℕ → ℕ} (λ g. be64 bs (p + 8 * j + 8 * (g * c))) (wordAt bs p c j)
 words-at bs p c j = λ t g. be64 bs (place g t)
   where
     place : (g : ℕ) → p + 8 * j + 8 * (g * c) ≡ p + 8 * (g * c + j)
@@ -63,7 +64,7 @@ words-at bs p c j = λ t g. be64 bs (place g t)
 -- ---- in two calls
 
 -- the words from slice g on
-pub words-from : (bs : List ℕ) (p c j g : ℕ) → _≡_ {A = ℕ → ℕ} (λ i. sliceWord bs p c j (g + i)) (sliceWord bs (p + 8 * (g * c)) c j)
+pub words-from : (bs : List ℕ) (p c j g : ℕ) → _≡_ {A = ℕ → ℕ} (λ i. wordAt bs p c j (g + i)) (wordAt bs (p + 8 * (g * c)) c j)
 words-from bs p c j g = λ t i. be64 bs (place i t)
   where
     place : (i : ℕ) → p + 8 * ((g + i) * c + j) ≡ p + 8 * (g * c) + 8 * (i * c + j)
@@ -81,7 +82,7 @@ module _ (bs : List ℕ) (p c : ℕ) (states : List QoaLms) (g : ℕ) where
       dite (decLt j c)
       (λ used.
       groups-lms bs p c states (g + h) j used inside
-      ∙ run-more (sliceWord bs p c j) (lmsOf states j) g h
+      ∙ run-more (wordAt bs p c j) (lmsOf states j) g h
       ∙ ap₂ (λ (w : ℕ → ℕ) (s : QoaLms). runAfter w s h) (words-from bs p c j g) (sym (groups-lms bs p c states g j used inside))
       ∙ sym (groups-lms bs then c first h j used (rw length-groups inside)))
       (λ past.
@@ -98,5 +99,5 @@ module _ (bs : List ℕ) (p c : ℕ) (states : List QoaLms) (g : ℕ) where
       let j : ℕ = k % c in
       let used : j < c = mod-lt k some in
       rw (channel, place)
-      (channel-shift (sliceWord bs p c j) (lmsOf states j) g (k / c)
+      (channel-shift (wordAt bs p c j) (lmsOf states j) g (k / c)
       ∙ ap₂ (λ (w : ℕ → ℕ) (s : QoaLms). channelAt w s (k / c)) (words-from bs p c j g) (sym (groups-lms bs p c states g j used (omega arith))))

@@ -4,23 +4,19 @@ use mathlib.Core.List.{List}
 use lib.IntN.{ℤ}
 use Rattle.word.specs.Written.{written}
 use Rattle.word.specs.Bytes.{be64}
-use Rattle.lms.specs.Predictor.{WeightsWithin}
+use Rattle.lms.specs.Parts.{WeightsWithin}
 use Rattle.lms.specs.declared.QoaLms.{QoaLms}
-use Rattle.header.specs.Predictor.{lmsOf}
+use Rattle.format.specs.Predictor.{lmsOf}
 use Rattle.groups.specs.Channel.{channelAt, runAfter}
 
 -- the word of slice g of channel j, of c channels
-abbrev pub sliceWord : List ℕ → ℕ → ℕ → ℕ → ℕ → ℕ
-sliceWord bs p c j g = be64 bs (p + 8 * (g * c + j))
+abbrev pub wordAt : List ℕ → ℕ → ℕ → ℕ → ℕ → ℕ
+wordAt bs p c j g = be64 bs (p + 8 * (g * c + j))
 
 -- the predictors after g groups: those of the first c channels run over their slices, the others are as they were
 unfoldable pub groupsStates : List ℕ → ℕ → ℕ → List QoaLms → ℕ → List QoaLms
-groupsStates bs p c states g = written (λ j. runAfter (sliceWord bs p c j) (lmsOf states j) g) states 0 1 c
+groupsStates bs p c states g = written (λ j. runAfter (wordAt bs p c j) (lmsOf states j) g) states 0 1 c
 
 -- the k-th sample of the groups, interleaved: sample k / c of channel k % c
 unfoldable pub groupsAt : List ℕ → ℕ → ℕ → List QoaLms → ℕ → ℤ
-groupsAt bs p c states k = channelAt (sliceWord bs p c (k % c)) (lmsOf states (k % c)) (k / c)
-
--- every used channel's weights are at most B in magnitude
-abbrev pub AllWithin : ℕ → ℕ → List QoaLms → Type 0
-AllWithin B c states = (j : ℕ) → j < c → WeightsWithin B (lmsOf states j)
+groupsAt bs p c states k = channelAt (wordAt bs p c (k % c)) (lmsOf states (k % c)) (k / c)

@@ -1,3 +1,4 @@
 -- What the contracts cite.
 pub mod Channel
 pub mod Groups
+pub mod Parts

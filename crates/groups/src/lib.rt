@@ -1,6 +1,6 @@
 // A channel's slices and slice groups, decoded into lent samples. `tab` is the dequantising table, which a caller holds for a whole frame.
-use header::frame::QOA_MAX_CHANNELS;
-use header::frame::QOA_SLICE_LEN;
+use format::frame::QOA_MAX_CHANNELS;
+use format::frame::QOA_SLICE_LEN;
 use lms::QoaLms;
 use slice::decode_slice;
 ghost use mathlib.Core.Path.{_≡_};
@@ -8,11 +8,12 @@ ghost use Prim.Native.Nat.{ℕ, _+_, _*_, _^_, _≤_, _<_, min};
 ghost use lib.ListN.{length};
 ghost use Rattle.word.specs.Bytes.{be64};
 ghost use Rattle.word.specs.Written.{written};
-ghost use Rattle.lms.specs.Predictor.{WeightsWithin};
+ghost use Rattle.lms.specs.Parts.{WeightsWithin};
 ghost use Rattle.scale.specs.Tables.{dequantTab};
-ghost use Rattle.header.specs.Format.{maxChannels, slicesOf};
+ghost use Rattle.format.specs.Format.{maxChannels, slicesOf};
 ghost use Rattle.groups.specs.Channel.{channelAt, runAfter};
-ghost use Rattle.groups.specs.Groups.{groupsAt, groupsStates, AllWithin};
+ghost use Rattle.groups.specs.Groups.{groupsAt, groupsStates};
+ghost use Rattle.groups.specs.Parts.{AllWithin};
 
 // The samples of a slice, of those that are left: twenty, or fewer in a short one.
 fn slice_len(left: usize) -> usize

@@ -11,9 +11,9 @@ use Rattle.word.specs.Written.{table, written}
 use Rattle.word.proofs.Tables.{table-ext}
 use Rattle.word.proofs.Writes.{written-at, written-ext, written-join}
 use Rattle.lms.specs.declared.QoaLms.{QoaLms}
-use Rattle.header.specs.Predictor.{lmsOf}
+use Rattle.format.specs.Predictor.{lmsOf}
 use Rattle.groups.specs.Channel.{channelAt, runAfter}
-use Rattle.groups.specs.Groups.{groupsAt, groupsStates, sliceWord}
+use Rattle.groups.specs.Groups.{groupsAt, groupsStates, wordAt}
 use Rattle.groups.proofs.GroupLaws.{groups-lms, groups-shift}
 use Rattle.state.specs.View.{view, waiting}
 use Rattle.state.specs.declared.QoaDecoder.{QoaDecoder}
@@ -32,7 +32,7 @@ module _ (bs : List ℕ) (d : QoaDecoder) where
   -- only the used channels' predictors count
   groups-used : 0 < c → (i : ℕ) → groupsAt bs (d .at) c (view d .lms) i ≡ groupsAt bs (d .at) c (d .lms) i
   unfolding groupsAt
-  groups-used some i = ap (λ (s : QoaLms). channelAt (sliceWord bs (d .at) c (i % c)) s (i / c)) (view-lms d (i % c) (mod-lt i some))
+  groups-used some i = ap (λ (s : QoaLms). channelAt (wordAt bs (d .at) c (i % c)) s (i / c)) (view-lms d (i % c) (mod-lt i some))
 
   pub coming-groups : 0 < c → (i : ℕ) → comingAt bs (view d) (waiting (view d) + i) ≡ groupsAt bs (d .at) c (d .lms) i
   unfolding comingAt view
@@ -45,8 +45,8 @@ module _ (bs : List ℕ) (d : QoaDecoder) where
   pub lms-after : (q : ℕ) → c ≤ length (d .lms) → table c (lmsOf (groupsStates bs (d .at) c (d .lms) q)) ≡ groupsLms bs (view d) q
   unfolding groupsLms view
   lms-after q room =
-      table-ext c (lmsOf (groupsStates bs (d .at) c (d .lms) q)) (λ j. runAfter (sliceWord bs (d .at) c j) (lmsOf (view d .lms) j) q)
-      (λ j h. groups-lms bs (d .at) c (d .lms) q j h (omega arith) ∙ ap (λ (s : QoaLms). runAfter (sliceWord bs (d .at) c j) s q) (sym (view-lms d j h)))
+      table-ext c (lmsOf (groupsStates bs (d .at) c (d .lms) q)) (λ j. runAfter (wordAt bs (d .at) c j) (lmsOf (view d .lms) j) q)
+      (λ j h. groups-lms bs (d .at) c (d .lms) q j h (omega arith) ∙ ap (λ (s : QoaLms). runAfter (wordAt bs (d .at) c j) s q) (sym (view-lms d j h)))
 
   pub lms-same : table c (lmsOf (d .lms)) ≡ groupsLms bs (view d) 0
   unfolding groupsLms runAfter view

@@ -5,7 +5,7 @@ use Prim.Native.Nat.{ℕ, zero, suc, _+_, _-_, _*_, _/_, _%_, _≤_, _<_, min}
 use native.Mathlib.Decide.{decLt}
 use native.Mathlib.Nat.{div-add-mod', div-eq-of-lt, div-le-self, div-mul-le-self, div-self, le-div-iff-mul-le, le-of-mul-le-mul-right, le-trans, lt-of-mul-lt-mul-right, mod-lt, mul-add-div-right, mul-zero, not-suc-le-zero}
 use native.Mathlib.Omega.{arith}
-use Rattle.header.specs.Format.{slicesOf}
+use Rattle.format.specs.Format.{slicesOf}
 use Rattle.into.specs.Into.{groupsFor}
 
 -- the slices of a whole number of groups, of none, and of one that may be short

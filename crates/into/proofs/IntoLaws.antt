@@ -7,19 +7,19 @@ use Prim.Native.Nat.{ℕ, _+_, _-_, _*_, _≤_, _<_}
 use native.Mathlib.Omega.{arith}
 use lib.IntN.{ℤ, pos}
 use lib.ListN.{getD, length}
-use Rattle.word.specs.Rules.{Rule, firstOf}
+use Rattle.refusal.specs.Rules.{Rule, firstOf}
 use Rattle.word.specs.Written.{written}
-use Rattle.word.proofs.Rules.{fires, none-fires}
+use Rattle.refusal.proofs.Rules.{fires, none-fires}
 use Rattle.word.proofs.Writes.{written-ext}
 use Rattle.word.proofs.Tests.{tests}
-use Rattle.header.specs.declared.refusal.Refusal.the-variants.{BadState, Truncated}
+use Rattle.refusal.specs.declared.Refusal.the-variants.{BadState, Truncated}
 use Rattle.state.specs.View.{view, waiting}
 use Rattle.state.specs.States.{goodState}
 use Rattle.state.specs.declared.QoaDecoder.{QoaDecoder}
 use Rattle.state.proofs.GoodStates.{good-facts}
 use Rattle.into.specs.Into.{IntoDone, comingAt, flagged, groupsEnd, groupsFor, intoAfter, intoCount, intoGroups, intoRules, takenFrom}
 use Rattle.into.specs.declared.DecodedInto.{DecodedInto}
-use Rattle.into.specs.declared.IntoAnswer.the-variants.{Count, Refused}
+use Rattle.refusal.specs.declared.CountAnswer.the-variants.{Count, Refused}
 use Rattle.into.proofs.Counts.{groups-none}
 use Rattle.into.proofs.Coming.{coming-pending}
 use Rattle.into.proofs.Taken.{taken-given}

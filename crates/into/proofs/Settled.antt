@@ -5,17 +5,15 @@ use mathlib.Core.Option.{Option, none, some}
 use Prim.Native.Nat.{ℕ}
 use lib.IntN.{ℤ}
 use lib.ListN.{length}
-use Rattle.word.specs.Rules.{firstOf}
-use Rattle.header.proofs.Told.{answered, number-back, told-one}
+use Rattle.refusal.specs.Rules.{firstOf}
+use Rattle.refusal.proofs.Told.{told-count}
 use Rattle.state.specs.View.{View, view}
 use Rattle.state.specs.declared.QoaDecoder.{QoaDecoder}
 use Rattle.into.specs.Left.{Leaves}
-use Rattle.into.specs.Into.{IntoDone, intoAfter, intoRules, toldInto}
+use Rattle.into.specs.Into.{IntoDone, intoAfter, intoRules}
 use Rattle.into.specs.declared.DecodedInto.{DecodedInto}
-use Rattle.into.specs.declared.IntoAnswer as I
-
-pub told-into : (a b : I.IntoAnswer) → toldInto a ≡ toldInto b → a ≡ b
-told-into = told-one toldInto (answered I.the-variants.Count I.the-variants.Refused) (elim [ I.the-variants.Count n ↦ refl | I.the-variants.Refused r ↦ ap I.the-variants.Refused (number-back r) ])
+use Rattle.refusal.specs.Refusals.{toldCount}
+use Rattle.refusal.specs.declared.CountAnswer as I
 
 -- a call hands back one state, by its view
 pub leaves-one : (o : Option ℕ) (d : QoaDecoder) (v : View) (a b : QoaDecoder) → Leaves o d v a → Leaves o d v b → view a ≡ view b
@@ -25,7 +23,7 @@ leaves-one (some n) d v a b p q = ap view (p ∙ sym q)
 pub decode-into-settled : (bs : List ℕ) (d : QoaDecoder) (out : List ℤ) (r s : DecodedInto) (o p : List ℤ) → IntoDone bs d out r o → IntoDone bs d out s p
     → (r .answer ≡ s .answer) × (view (r .state) ≡ view (s .state)) × (o ≡ p)
 decode-into-settled bs d out r s o p x y = (
-  told-into (r .answer) (s .answer) (x .told ∙ sym (y .told)),
+  told-count (r .answer) (s .answer) (x .told ∙ sym (y .told)),
   leaves-one (firstOf (intoRules bs (view d) (length out))) d (intoAfter bs (view d) (length out)) (r .state) (s .state) (x .left) (y .left),
   x .stored ∙ sym (y .stored),
 )

@@ -13,12 +13,12 @@ use lib.ListN.{getD, length}
 use Rattle.word.specs.Written.{table}
 use Rattle.word.proofs.Tables.{table-ext}
 use Rattle.lms.specs.declared.QoaLms.{QoaLms}
-use Rattle.header.specs.Format.{slicesOf}
+use Rattle.format.specs.Format.{slicesOf}
 use Rattle.groups.specs.Groups.{groupsStates}
 use Rattle.groups.proofs.GroupLaws.{groups-more}
 use Rattle.state.specs.View.{View, view, waiting}
 use Rattle.state.specs.declared.QoaDecoder.{QoaDecoder}
-use Rattle.into.specs.Into.{comingAt, endAfter, flagged, groupsFor, nextAfter, rangeEnd, rangeNext, takenFrom}
+use Rattle.into.specs.Into.{comingAt, pendingTo, flagged, groupsFor, pendingFrom, rangeEnd, rangeNext, takenFrom}
 use Rattle.into.proofs.Counts.{Split, groups-are, groups-some, last-slices, samples-are}
 use Rattle.into.proofs.Ranges.{range-none, range-table, table-same}
 use Rattle.into.proofs.Coming.{coming-last, coming-pending, lastAside, lms-after, lms-same}
@@ -83,7 +83,7 @@ module _ (bs : List ℕ) (d : QoaDecoder) {more w r n : ℕ} (s : Split (d .fram
   k = waiting (view d) + more
 
   -- where a part of the last group is asked for, the range is in it
-  part-range : 0 < r → (nextAfter (view d) q k ≡ r) × (endAfter (view d) q ≡ n * c)
+  part-range : 0 < r → (pendingFrom (view d) q k ≡ r) × (pendingTo (view d) q ≡ n * c)
   unfolding view
   part-range part =
       let one : slicesOf n ≡ 1 = last-slices s .1 part in
@@ -92,7 +92,7 @@ module _ (bs : List ℕ) (d : QoaDecoder) {more w r n : ℕ} (s : Split (d .fram
       rw (some-group, last, samples-are s) (omega (arith, s .parts))
 
   -- where none is, no sample stays pending
-  whole-range : r ≡ 0 → (nextAfter (view d) q k ≡ 20 * c) × (endAfter (view d) q ≡ 20 * c)
+  whole-range : r ≡ 0 → (pendingFrom (view d) q k ≡ 20 * c) × (pendingTo (view d) q ≡ 20 * c)
   unfolding view
   whole-range none =
       let no-slice : slicesOf n ≡ 0 = last-slices s .0 none in
@@ -104,7 +104,7 @@ module _ (bs : List ℕ) (d : QoaDecoder) {more w r n : ℕ} (s : Split (d .fram
       rw (some-group, samples-are s) (omega (arith, s .parts))
 
   -- either way the range is that of the definition
-  range-is : (rangeNext r (n * c) ≡ rangeNext (nextAfter (view d) q k) (endAfter (view d) q)) × (rangeEnd r (n * c) ≡ rangeEnd (nextAfter (view d) q k) (endAfter (view d) q))
+  range-is : (rangeNext r (n * c) ≡ rangeNext (pendingFrom (view d) q k) (pendingTo (view d) q)) × (rangeEnd r (n * c) ≡ rangeEnd (pendingFrom (view d) q k) (pendingTo (view d) q))
   range-is =
       dite (decLt 0 r)
       (λ part. let e = part-range part in (sym (ap₂ rangeNext (e .0) (e .1)), sym (ap₂ rangeEnd (e .0) (e .1))))
@@ -113,19 +113,19 @@ module _ (bs : List ℕ) (d : QoaDecoder) {more w r n : ℕ} (s : Split (d .fram
       let no-sample : n * c ≡ 0 = ap (λ (m : ℕ). m * c) (s .none-last no-rest) ∙ omega arith in
       let e = whole-range no-rest in
       let here = range-none r (n * c) (omega arith) in
-      let there = range-none (nextAfter (view d) q k) (endAfter (view d) q) (omega arith) in
+      let there = range-none (pendingFrom (view d) q k) (pendingTo (view d) q) (omega arith) in
       (here .0 ∙ sym (there .0), here .1 ∙ sym (there .1)))
 
   -- and so are the samples in it
   module _ (room : d .frame .channels ≤ length (d .lms)) (aside : List ℤ) (long : n * d .frame .channels ≤ length aside) where
     pending-is : table (n * c - r) (λ i. getD (lastAside bs d (s .some-channels) room w (n * c) aside long) (r + i) (pos 0))
-        ≡ table (endAfter (view d) q - nextAfter (view d) q k) (λ i. comingAt bs (view d) (k + i))
+        ≡ table (pendingTo (view d) q - pendingFrom (view d) q k) (λ i. comingAt bs (view d) (k + i))
     pending-is =
         let last : List ℤ = lastAside bs d (s .some-channels) room w (n * c) aside long in
         dite (decLt 0 r)
         (λ part.
         let e = part-range part in
-        table-same (n * c - r) (endAfter (view d) q - nextAfter (view d) q k) (λ i. getD last (r + i) (pos 0)) (λ i. comingAt bs (view d) (k + i)) (omega arith)
+        table-same (n * c - r) (pendingTo (view d) q - pendingFrom (view d) q k) (λ i. getD last (r + i) (pos 0)) (λ i. comingAt bs (view d) (k + i)) (omega arith)
         (λ i h.
         let place : waiting (view d) + (20 * w * c + (r + i)) ≡ waiting (view d) + more + i = omega (arith, s .parts) in
         coming-last bs d (s .some-channels) room w (n * c) aside long (r + i) (omega arith) ∙ ap (comingAt bs (view d)) place))
@@ -133,7 +133,7 @@ module _ (bs : List ℕ) (d : QoaDecoder) {more w r n : ℕ} (s : Split (d .fram
         let no-rest : r ≡ 0 = omega arith in
         let no-sample : n * c ≡ 0 = ap (λ (m : ℕ). m * c) (s .none-last no-rest) ∙ omega arith in
         let e = whole-range no-rest in
-        table-same (n * c - r) (endAfter (view d) q - nextAfter (view d) q k) (λ i. getD last (r + i) (pos 0)) (λ i. comingAt bs (view d) (k + i)) (omega arith)
+        table-same (n * c - r) (pendingTo (view d) q - pendingFrom (view d) q k) (λ i. getD last (r + i) (pos 0)) (λ i. comingAt bs (view d) (k + i)) (omega arith)
         (λ i h. absurd (omega arith)))
 
     view-at-once :

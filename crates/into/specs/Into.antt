@@ -7,20 +7,18 @@ use mathlib.Core.Option.{Option, none, some}
 use lib.Dec.{eqb, ltb}
 use lib.IntN.{ℤ, pos}
 use lib.ListN.{getD, length}
-use Rattle.word.specs.Rules.{Answer, good, refused, Rule, _gives_, after, firstOf}
+use Rattle.refusal.specs.Rules.{good, Rule, _gives_, after, firstOf}
 use Rattle.word.specs.Written.{table, written}
 use Rattle.lms.specs.declared.QoaLms.{QoaLms}
-use Rattle.header.specs.Refusals.{numberOf}
-use Rattle.header.specs.Predictor.{lmsOf}
+use Rattle.refusal.specs.Refusals.{toldCount}
+use Rattle.format.specs.Predictor.{lmsOf}
 use Rattle.groups.specs.Channel.{runAfter}
-use Rattle.groups.specs.Groups.{groupsAt, sliceWord}
+use Rattle.groups.specs.Groups.{groupsAt, wordAt}
 use Rattle.state.specs.View.{View, channelsOf, total, view, waiting}
 use Rattle.state.specs.States.{goodState}
 use Rattle.state.specs.declared.QoaDecoder.{QoaDecoder}
 use Rattle.into.specs.Left.{Leaves}
 use Rattle.into.specs.declared.DecodedInto.{DecodedInto}
-use Rattle.into.specs.declared.IntoAnswer.{IntoAnswer}
-use Rattle.into.specs.declared.IntoAnswer.the-variants.{Count, Refused}
 
 -- ---- slice groups
 
@@ -38,7 +36,7 @@ groupsSamples v q = min (20 * q) (v .remaining)
 
 -- the predictors after q groups
 unfoldable pub groupsLms : List ℕ → View → ℕ → List QoaLms
-groupsLms bs v q = table (channelsOf v) (λ j. runAfter (sliceWord bs (v .at) (channelsOf v) j) (lmsOf (v .lms) j) q)
+groupsLms bs v q = table (channelsOf v) (λ j. runAfter (wordAt bs (v .at) (channelsOf v) j) (lmsOf (v .lms) j) q)
 
 -- the range of pending samples, 0 and 0 where none is left
 abbrev pub rangeNext : ℕ → ℕ → ℕ
@@ -58,15 +56,15 @@ abbrev pub groupsNeeded : View → ℕ → ℕ
 groupsNeeded v k = groupsFor (channelsOf v) (k - waiting v)
 
 -- what stands before the last of those groups, of all samples to come
-abbrev pub before : View → ℕ → ℕ
-before v q = waiting v + 20 * (q - 1) * channelsOf v
+abbrev pub beforeLast : View → ℕ → ℕ
+beforeLast v q = waiting v + 20 * (q - 1) * channelsOf v
 
 -- the range after k samples: within the pending ones, or within the last group that was decoded
-abbrev pub nextAfter : View → ℕ → ℕ → ℕ
-nextAfter v q k = cond (eqb q 0) (v .next + k) (k - before v q)
+abbrev pub pendingFrom : View → ℕ → ℕ → ℕ
+pendingFrom v q k = cond (eqb q 0) (v .next + k) (k - beforeLast v q)
 
-abbrev pub endAfter : View → ℕ → ℕ
-endAfter v q = cond (eqb q 0) (v .end) (waiting v + groupsSamples v q * channelsOf v - before v q)
+abbrev pub pendingTo : View → ℕ → ℕ
+pendingTo v q = cond (eqb q 0) (v .end) (waiting v + groupsSamples v q * channelsOf v - beforeLast v q)
 
 -- the state after k samples, for which q groups were decoded
 unfoldable pub takenFrom : List ℕ → View → ℕ → ℕ → View
@@ -75,9 +73,9 @@ takenFrom bs v q k = record {
   at = groupsEnd v q;
   frame = v .frame;
   remaining = v .remaining - groupsSamples v q;
-  next = rangeNext (nextAfter v q k) (endAfter v q);
-  end = rangeEnd (nextAfter v q k) (endAfter v q);
-  pending = table (endAfter v q - nextAfter v q k) (λ i. comingAt bs v (k + i));
+  next = rangeNext (pendingFrom v q k) (pendingTo v q);
+  end = rangeEnd (pendingFrom v q k) (pendingTo v q);
+  pending = table (pendingTo v q - pendingFrom v q k) (λ i. comingAt bs v (k + i));
   given = true;
   lms = groupsLms bs v q;
 }
@@ -115,11 +113,6 @@ intoRules bs v room =
 abbrev pub intoAfter : List ℕ → View → ℕ → View
 intoAfter bs v room = takenFrom bs v (intoGroups v room) (intoCount v room)
 
--- what the code's answer tells
-abbrev pub toldInto : IntoAnswer → Answer ℕ
-toldInto (Count n) = good n
-toldInto (Refused r) = refused (numberOf r)
-
 -- lent memory: as it was on a refusal
 abbrev pub storedUnless : Option ℕ → List ℤ → List ℤ → List ℤ
 storedUnless none stored out = stored
@@ -127,6 +120,6 @@ storedUnless (some n) stored out = out
 
 -- what the call promises, of the bytes, the state and the lent memory: its answer, its state, and that memory afterwards
 pub record IntoDone (bs : List ℕ) (d : QoaDecoder) (out : List ℤ) (r : DecodedInto) (out' : List ℤ) : Type 0 where
-  pub told : toldInto (r .answer) ≡ after (intoRules bs (view d) (length out)) (good (intoCount (view d) (length out)))
+  pub told : toldCount (r .answer) ≡ after (intoRules bs (view d) (length out)) (good (intoCount (view d) (length out)))
   pub left : Leaves (firstOf (intoRules bs (view d) (length out))) d (intoAfter bs (view d) (length out)) (r .state)
   pub stored : out' ≡ storedUnless (firstOf (intoRules bs (view d) (length out))) (written (comingAt bs (view d)) out 0 1 (intoCount (view d) (length out))) out

@@ -6,24 +6,19 @@ ghost use Prim.Native.Nat.{ℕ, _+_, _-_, _*_, _≤_, _<_, min};
 ghost use lib.IntN.{pos};
 ghost use lib.ListN.{getD, length};
 ghost use Rattle.word.specs.Written.{written};
-ghost use Rattle.header.specs.Format.{maxChannels};
+ghost use Rattle.format.specs.Format.{maxChannels};
 ghost use Rattle.state.specs.View.{view, waiting};
 ghost use Rattle.state.specs.States.{goodState};
-ghost use Rattle.into.specs.declared.IntoAnswer.the-variants.{Refused};
+ghost use Rattle.refusal.specs.declared.CountAnswer.the-variants.{Refused};
 ghost use Rattle.into.specs.Into.{IntoDone, comingAt, flagged, groupsEnd, groupsFor, rangeEnd, rangeNext, takenFrom};
-use header::frame::QOA_SLICE_LEN;
-use header::refusal::Refusal;
+use format::frame::QOA_SLICE_LEN;
+use refusal::CountAnswer;
+use refusal::Refusal;
 use state::PENDING;
 use state::QoaDecoder;
 
-// How many samples were written.
-pub enum IntoAnswer {
-    Count(usize),
-    Refused(Refusal),
-}
-
 pub struct DecodedInto {
-    pub answer: IntoAnswer,
+    pub answer: CountAnswer,
     pub state: QoaDecoder,
 }
 
@@ -106,7 +101,7 @@ pub fn decode_more(d: QoaDecoder, bytes: &[u8], out: &mut [i16], more: usize) ->
     copy_out(&fresh, 0, rest, out, kept + whole * group);
     let range = pending_range(rest, n * channels);
     let mut state = d;
-    state.at = place + 8 * (header::slices_of(n) * channels);
+    state.at = place + 8 * (format::slices_of(n) * channels);
     state.remaining = (left - n) as u16;
     state.next = range.next;
     state.end = range.end;
@@ -143,7 +138,7 @@ fn refused(d: QoaDecoder, refusal: Refusal) -> DecodedInto
     ensures { λ r. ⌜ (r .answer ≡ Refused refusal) × (r .state ≡ d) ⌝ }
 {
     DecodedInto {
-        answer: IntoAnswer::Refused(refusal),
+        answer: CountAnswer::Refused(refusal),
         state: d,
     }
 }
@@ -166,7 +161,7 @@ pub fn decode_into(d: QoaDecoder, bytes: &[u8], out: &mut [i16]) -> DecodedInto
         let pending = d.pending;
         copy_out(&pending, next, count, out, 0);
         return DecodedInto {
-            answer: IntoAnswer::Count(count),
+            answer: CountAnswer::Count(count),
             state: after_pending(d, count, true),
         };
     }
@@ -176,7 +171,7 @@ pub fn decode_into(d: QoaDecoder, bytes: &[u8], out: &mut [i16]) -> DecodedInto
         return refused(d, Refusal::Truncated);
     }
     DecodedInto {
-        answer: IntoAnswer::Count(count),
+        answer: CountAnswer::Count(count),
         state: decode_more(d, bytes, out, more),
     }
 }

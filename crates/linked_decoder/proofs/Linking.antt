@@ -9,25 +9,25 @@ use native.Mathlib.Omega.{arith}
 use lib.Dec.{leb, ltb}
 use lib.IntN.{ℤ, pos}
 use lib.ListN.{length, set}
-use Rattle.word.specs.Rules.{Answer, Rule, after, firstOf, good, refused, _gives_}
+use Rattle.refusal.specs.Rules.{Answer, Rule, after, firstOf, good, refused, _gives_}
 use Rattle.word.specs.Bytes.{be16}
-use Rattle.word.proofs.Rules.{after-good, after-refused, fires, fires-left, fires-right, good-same, none-fires, unless-good}
+use Rattle.refusal.proofs.Rules.{after-good, after-refused, fires, fires-left, fires-right, good-same, none-fires, unless-good}
 use Rattle.word.proofs.Tests.{tests}
-use Rattle.header.specs.Format.{maxChannels}
-use Rattle.header.specs.declared.facts.Facts.{Facts}
+use Rattle.format.specs.Format.{maxChannels}
+use Rattle.format.specs.declared.facts.Facts.{Facts}
 use Rattle.state.specs.Facts.{factsFor}
 use Rattle.state.specs.Opening.{OpenLeaves, openRules, openedAt}
 use Rattle.state.specs.States.{goodState}
 use Rattle.state.specs.View.{View, view}
 use Rattle.state.specs.declared.QoaDecoder.{QoaDecoder}
-use Rattle.state.proofs.Belows.{and-left, fails}
+use Rattle.word.proofs.Belows.{and-left, fails}
 use Rattle.state.proofs.GoodStates.{good-facts}
 use Rattle.into.specs.Left.{Leaves}
 use Rattle.encoder.specs.Calls.{onto}
 use Rattle.block.specs.DecoderBlock.{byteIn, decoderBytes, decoderIn, decoderSize, frameIn, isDecoder}
 use Rattle.block.specs.Parts.{readableDecoder}
 use Rattle.codes.specs.Codes.{coded}
-use Rattle.linked_decoder.specs.Linked.{DecodeLinked, FactsLinked, OpenLinked, blockLeft, blocked, factsIn, factsRules, openingRules, threeFacts}
+use Rattle.linked_decoder.specs.Linked.{DecodeLinked, FactsLinked, OpenLinked, decoderLeft, blocked, factsOn, factsRules, openingRules, threeFacts}
 
 -- ---- a block that can't be read
 
@@ -122,16 +122,16 @@ module _ (block : List ℕ) (bytes : ℕ) (facts : List ℕ) where
   abbrev two : List Rule
   two = blocked block ((not (goodState (decoderIn block) bytes) gives 8) ∷ [])
 
-  pub facts-bad : (n : ℕ) → refused n ≡ factsIn block bytes → firstOf (factsRules block bytes (length facts)) ≡ some n
-  unfolding factsIn factsRules
+  pub facts-bad : (n : ℕ) → refused n ≡ factsOn block bytes → firstOf (factsRules block bytes (length facts)) ≡ some n
+  unfolding factsOn factsRules
   facts-bad n e = fires-left two ((ltb (length facts) 3 gives 7) ∷ []) n (after-refused two _ n (sym e))
 
-  pub facts-short : (f : Facts) → good f ≡ factsIn block bytes → length facts < 3 → firstOf (factsRules block bytes (length facts)) ≡ some 7
-  unfolding factsIn factsRules
+  pub facts-short : (f : Facts) → good f ≡ factsOn block bytes → length facts < 3 → firstOf (factsRules block bytes (length facts)) ≡ some 7
+  unfolding factsOn factsRules
   facts-short f e short = fires-right two ((ltb (length facts) 3 gives 7) ∷ []) (accepted two _ f e .0) ∙ fires 0 ((ltb (length facts) 3 gives 7) ∷ []) 7 (omega (arith, tests))
 
-  pub facts-good : (f : Facts) → good f ≡ factsIn block bytes → 3 ≤ length facts → (firstOf (factsRules block bytes (length facts)) ≡ none) × (factsFor (decoderIn block .mode) (decoderIn block .frame) ≡ f)
-  unfolding factsIn factsRules
+  pub facts-good : (f : Facts) → good f ≡ factsOn block bytes → 3 ≤ length facts → (firstOf (factsRules block bytes (length facts)) ≡ none) × (factsFor (decoderIn block .mode) (decoderIn block .frame) ≡ f)
+  unfolding factsOn factsRules
   facts-good f e room =
       let found = accepted two _ f e in
       (fires-right two ((ltb (length facts) 3 gives 7) ∷ []) (found .0) ∙ none-fires ((ltb (length facts) 3 gives 7) ∷ []) (omega (arith, tests)), found .1)

@@ -4,11 +4,11 @@ use mathlib.Core.Path.{_≡_, sym, _∙_}
 use mathlib.Core.List.{List}
 use lib.Ieee.{Float}
 use lib.IntN.{ℤ, pos}
-use Rattle.word.specs.Rules.{Rule, good, _then_}
+use Rattle.refusal.specs.Rules.{Rule, good, _then_}
 use Rattle.state.specs.View.{View}
 use Rattle.block.specs.DecoderBlock.{decoderSize}
 use Rattle.codes.specs.Codes.{codedSeconds}
-use Rattle.linked_decoder.specs.Linked.{DecodeLinked, FactsLinked, FrameLinked, IntoLinked, ItemLinked, OpenLinked, factsIn}
+use Rattle.linked_decoder.specs.Linked.{DecodeLinked, FactsLinked, NextLinked, IntoLinked, ItemLinked, OpenLinked, factsOn}
 
 -- two things that equal a third are equal
 same : {A : Type 0} {x r s : A} → r ≡ x → s ≡ x → r ≡ s
@@ -27,7 +27,7 @@ qoa-decoder-open bs block r s x y p q = (same (p .answer) (q .answer), same (p .
 pub qoa-decoder-into : (bs block : List ℕ) (out : List ℤ) (r s : ℤ) (x y : List ℕ) (v w : List ℤ) → IntoLinked bs block out r x v → IntoLinked bs block out s y w → (r ≡ s) × (x ≡ y) × (v ≡ w)
 qoa-decoder-into bs block out r s x y v w p q = let call = linked _ _ _ _ r s x y (p .call) (q .call) in (call .0, call .1, same (p .samples) (q .samples))
 
-pub qoa-decoder-next-frame : (bs block : List ℕ) (r s : ℤ) (x y : List ℕ) → FrameLinked bs block r x → FrameLinked bs block s y → (r ≡ s) × (x ≡ y)
+pub qoa-decoder-next-frame : (bs block : List ℕ) (r s : ℤ) (x y : List ℕ) → NextLinked bs block r x → NextLinked bs block s y → (r ≡ s) × (x ≡ y)
 qoa-decoder-next-frame bs block = linked _ _ _ _
 
 pub qoa-decoder-next-item : (bs block : List ℕ) (r s : ℤ) (x y : List ℕ) → ItemLinked bs block r x → ItemLinked bs block s y → (r ≡ s) × (x ≡ y)
@@ -36,5 +36,5 @@ qoa-decoder-next-item bs block = linked _ _ _ _
 pub qoa-decoder-facts : (block : List ℕ) (bytes : ℕ) (facts : List ℕ) (r s : ℤ) (x y : List ℕ) → FactsLinked block bytes facts r x → FactsLinked block bytes facts s y → (r ≡ s) × (x ≡ y)
 qoa-decoder-facts block bytes facts r s x y p q = (same (p .answer) (q .answer), same (p .told) (q .told))
 
-pub qoa-decoder-seconds : (block : List ℕ) (bytes : ℕ) (r s : Float) → r ≡ codedSeconds (factsIn block bytes then λ f. good (f .length)) → s ≡ codedSeconds (factsIn block bytes then λ f. good (f .length)) → r ≡ s
+pub qoa-decoder-seconds : (block : List ℕ) (bytes : ℕ) (r s : Float) → r ≡ codedSeconds (factsOn block bytes then λ f. good (f .length)) → s ≡ codedSeconds (factsOn block bytes then λ f. good (f .length)) → r ≡ s
 qoa-decoder-seconds block bytes r s = same

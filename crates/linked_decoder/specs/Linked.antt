@@ -7,9 +7,9 @@ use mathlib.Core.Option.{Option, none, some}
 use lib.Dec.{ltb}
 use lib.IntN.{ℤ}
 use lib.ListN.{length}
-use Rattle.word.specs.Rules.{Answer, Rule, after, firstOf, good, _gives_}
+use Rattle.refusal.specs.Rules.{Answer, Rule, after, firstOf, good, _gives_}
 use Rattle.word.specs.Written.{written}
-use Rattle.header.specs.declared.facts.Facts.{Facts}
+use Rattle.format.specs.declared.facts.Facts.{Facts}
 use Rattle.state.specs.Facts.{factsFor}
 use Rattle.state.specs.Opening.{openRules, openedAt}
 use Rattle.state.specs.States.{goodState}
@@ -27,14 +27,14 @@ abbrev pub blocked : List ℕ → List Rule → List Rule
 blocked block rules = (not (isDecoder block) gives 8) ∷ rules
 
 -- the block after a call: as it was on a refusal, else the next state's at its start
-abbrev pub blockLeft : Option ℕ → View → List ℕ → List ℕ
-blockLeft none next block = onto block (decoderBytes next)
-blockLeft (some n) next block = block
+abbrev pub decoderLeft : Option ℕ → View → List ℕ → List ℕ
+decoderLeft none next block = onto block (decoderBytes next)
+decoderLeft (some n) next block = block
 
 -- a call with such rules, which answers with a number and after which the state goes on
 pub record DecodeLinked (block : List ℕ) (rules : List Rule) (number : ℕ) (next : View) (r : ℤ) (block' : List ℕ) : Type 0 where
   pub answer : r ≡ coded (after (blocked block rules) (good number))
-  pub state : block' ≡ blockLeft (firstOf (blocked block rules)) next block
+  pub state : block' ≡ decoderLeft (firstOf (blocked block rules)) next block
 
 -- ---- samples into lent memory, the next frame, the next item
 
@@ -42,8 +42,8 @@ pub record IntoLinked (bs block : List ℕ) (out : List ℤ) (r : ℤ) (block' :
   pub call : DecodeLinked block (intoRules bs (decoderIn block) (length out)) (intoCount (decoderIn block) (length out)) (intoAfter bs (decoderIn block) (length out)) r block'
   pub samples : out' ≡ storedUnless (firstOf (blocked block (intoRules bs (decoderIn block) (length out)))) (written (comingAt bs (decoderIn block)) out 0 1 (intoCount (decoderIn block) (length out))) out
 
-abbrev pub FrameLinked : List ℕ → List ℕ → ℤ → List ℕ → Type 0
-FrameLinked bs block r block' = DecodeLinked block (nextRules bs (decoderIn block)) (foundCode (nextFound bs (decoderIn block))) (nextAfter bs (decoderIn block)) r block'
+abbrev pub NextLinked : List ℕ → List ℕ → ℤ → List ℕ → Type 0
+NextLinked bs block r block' = DecodeLinked block (nextRules bs (decoderIn block)) (foundCode (nextFound bs (decoderIn block))) (nextAfter bs (decoderIn block)) r block'
 
 abbrev pub ItemLinked : List ℕ → List ℕ → ℤ → List ℕ → Type 0
 ItemLinked bs block r block' = DecodeLinked block (itemRules bs (decoderIn block)) (itemCode (itemOf bs (decoderIn block))) (itemAfter bs (decoderIn block)) r block'
@@ -55,12 +55,12 @@ openingRules bs room = openRules bs ++ ((ltb room decoderSize gives 7) ∷ [])
 
 pub record OpenLinked (bs block : List ℕ) (r : ℤ) (block' : List ℕ) : Type 0 where
   pub answer : r ≡ coded (after (openingRules bs (length block)) (good 0))
-  pub state : block' ≡ blockLeft (firstOf (openingRules bs (length block))) (openedAt bs) block
+  pub state : block' ≡ decoderLeft (firstOf (openingRules bs (length block))) (openedAt bs) block
 
 -- ---- facts: 8; 7 where there is no room for three numbers
 
-unfoldable pub factsIn : List ℕ → ℕ → Answer Facts
-factsIn block bytes = after (blocked block ((not (goodState (decoderIn block) bytes) gives 8) ∷ [])) (good (factsFor (decoderIn block .mode) (decoderIn block .frame)))
+unfoldable pub factsOn : List ℕ → ℕ → Answer Facts
+factsOn block bytes = after (blocked block ((not (goodState (decoderIn block) bytes) gives 8) ∷ [])) (good (factsFor (decoderIn block .mode) (decoderIn block .frame)))
 
 unfoldable pub factsRules : List ℕ → ℕ → ℕ → List Rule
 factsRules block bytes room = blocked block ((not (goodState (decoderIn block) bytes) gives 8) ∷ (ltb room 3 gives 7) ∷ [])

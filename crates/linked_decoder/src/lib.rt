@@ -3,24 +3,24 @@ ghost use mathlib.Core.Path.{_≡_};
 ghost use Prim.Native.Nat.{_≤_, _<_, _^_};
 ghost use lib.IntN.{pos};
 ghost use lib.ListN.{length};
-ghost use Rattle.word.specs.Rules.{good, _then_};
+ghost use Rattle.refusal.specs.Rules.{good, _then_};
 ghost use Rattle.state.specs.Facts.{toldFacts};
 ghost use Rattle.encoder.specs.Calls.{onto};
 ghost use Rattle.block.specs.DecoderBlock.{decoderSize};
 ghost use Rattle.codes.specs.Codes.{codedSeconds};
-ghost use Rattle.linked_decoder.specs.Linked.{FactsLinked, FrameLinked, IntoLinked, ItemLinked, OpenLinked, factsIn, threeFacts};
+ghost use Rattle.linked_decoder.specs.Linked.{FactsLinked, NextLinked, IntoLinked, ItemLinked, OpenLinked, factsOn, threeFacts};
 ghost use Rattle.linked_decoder.specs.Numbers.{frameCode};
 use block::DECODER_SIZE;
 use codes::count;
 use codes::minus;
 use decoder::FrameAnswer;
-use decoder::IntoAnswer;
 use decoder::QoaItem;
-use header::facts::Facts;
-use header::refusal::Refusal;
+use format::facts::Facts;
+use refusal::Checked;
+use refusal::CountAnswer;
+use refusal::Refusal;
 use state::FactsAnswer;
 use state::FrameFacts;
-use state::OpenAnswer;
 
 // The bytes of a decoder's block.
 #[no_mangle]
@@ -38,8 +38,8 @@ pub extern "C" fn qoa_decoder_open(bytes: &[u8], state: &mut [u8]) -> i64
     let opened = state::open_decoder(bytes);
     let answer = opened.answer;
     match answer {
-        OpenAnswer::Refused(r) => minus(r),
-        OpenAnswer::Opened => {
+        Checked::Refused(r) => minus(r),
+        Checked::Passed => {
             if state.len() < DECODER_SIZE {
                 return minus(Refusal::OutputTooSmall);
             }
@@ -63,8 +63,8 @@ pub extern "C" fn qoa_decoder_into(bytes: &[u8], state: &mut [u8], out: &mut [i1
     let done = decoder::decode_into(before, bytes, out);
     let answer = done.answer;
     match answer {
-        IntoAnswer::Refused(r) => minus(r),
-        IntoAnswer::Count(n) => {
+        CountAnswer::Refused(r) => minus(r),
+        CountAnswer::Count(n) => {
             let after = done.state;
             block::write_decoder(state, after);
             count(n)
@@ -84,7 +84,7 @@ fn frame_code(frame: FrameFacts) -> usize
 // On to the next frame: 0 at the end, or the frame's number.
 #[no_mangle]
 pub extern "C" fn qoa_decoder_next_frame(bytes: &[u8], state: &mut [u8]) -> i64
-    ensures { λ r. ⌜ FrameLinked (now (bytes .entry)) (now (state .entry)) r (now (state .exit)) ⌝ }
+    ensures { λ r. ⌜ NextLinked (now (bytes .entry)) (now (state .entry)) r (now (state .exit)) ⌝ }
 {
     let current = block::read_decoder(state);
     if !current.readable {
@@ -139,7 +139,7 @@ pub extern "C" fn qoa_decoder_next_item(bytes: &[u8], state: &mut [u8]) -> i64
 
 // The facts of a block's state.
 fn facts_in(bytes: &[u8], state: &[u8]) -> FactsAnswer
-    ensures { λ r. ⌜ toldFacts r ≡ factsIn (now (state .entry)) (length (now (bytes .entry))) ⌝ }
+    ensures { λ r. ⌜ toldFacts r ≡ factsOn (now (state .entry)) (length (now (bytes .entry))) ⌝ }
 {
     let shown = block::read_decoder(state);
     if !shown.readable {
@@ -179,7 +179,7 @@ pub extern "C" fn qoa_decoder_facts(bytes: &[u8], state: &[u8], facts: &mut [u32
 // The length in seconds, 0.0 where there is none; minus 8 on a refusal.
 #[no_mangle]
 pub extern "C" fn qoa_decoder_seconds(bytes: &[u8], state: &[u8]) -> f64
-    ensures { λ r. ⌜ r ≡ codedSeconds (factsIn (now (state .entry)) (length (now (bytes .entry))) then λ f. good (f .length)) ⌝ }
+    ensures { λ r. ⌜ r ≡ codedSeconds (factsOn (now (state .entry)) (length (now (bytes .entry))) then λ f. good (f .length)) ⌝ }
 {
     match facts_in(bytes, state) {
         FactsAnswer::Refused(r) => minus(r) as f64,

@@ -9,14 +9,14 @@ use native.Mathlib.Omega.{arith}
 use lib.Dec.{leb, ltb}
 use lib.IntN.{ℤ, pos}
 use lib.ListN.{length}
-use Rattle.word.specs.Rules.{firstOf, refused, _gives_}
-use Rattle.word.proofs.Rules.{fires, fires-left, fires-right, none-fires}
+use Rattle.refusal.specs.Rules.{firstOf, refused, _gives_}
+use Rattle.refusal.proofs.Rules.{fires, fires-left, fires-right, none-fires}
 use Rattle.word.proofs.Tests.{tests}
-use Rattle.header.specs.Format.{maxChannels}
-use Rattle.state.proofs.Belows.{and-left, fails}
+use Rattle.format.specs.Format.{maxChannels}
+use Rattle.word.proofs.Belows.{and-left, fails}
 use Rattle.encoder.specs.Calls.{HandsBack, Told, frameMemory, frameTold, headMemory, headTold, onto, refuses, refuses-14, wrote}
-use Rattle.encoder.specs.Encoder.{View, createRules, goodEncoder, newView, view}
-use Rattle.encoder.specs.Frame.{frameRules}
+use Rattle.encoder.specs.Encoder.{EncoderView, createRules, goodEncoder, newView, encoderView}
+use Rattle.encoder.specs.Frame.{encodeRules}
 use Rattle.encoder.specs.Head.{headRules}
 use Rattle.encoder.specs.declared.QoaEncoder.{QoaEncoder}
 use Rattle.encoder.proofs.Done.{bad-first}
@@ -27,24 +27,24 @@ use Rattle.block.specs.DecoderBlock.{byteIn}
 use Rattle.block.specs.EncoderBlock.{encoderBytes, encoderIn, encoderSize, isEncoder}
 use Rattle.block.specs.Parts.{readableEncoder}
 use Rattle.codes.specs.Codes.{coded, codedEncode}
-use Rattle.linked_encoder.specs.Linked.{EncodeLinked, HeadLinked, NewLinked, blockLeft, newRules, outLeft, toldBy}
+use Rattle.linked_encoder.specs.Linked.{EncodeLinked, HeadLinked, NewLinked, encoderLeft, newRules, outLeft, toldBy}
 
 -- ---- a block that can't be read
 
 -- a call that refuses a bad state by 8 and then leaves the output as it was
-pub record Refusing (v : View) (told : Told) (memory out : List ℕ) : Type 0 where
+pub record Refusing (v : EncoderView) (told : Told) (memory out : List ℕ) : Type 0 where
   pub by-eight : goodEncoder v ≡ false → told ≡ refuses 8
   pub untouched : goodEncoder v ≡ false → memory ≡ out
 
-pub head-refuses : (v : View) (out : List ℕ) → Refusing v (headTold v (length out)) (headMemory v out) out
+pub head-refuses : (v : EncoderView) (out : List ℕ) → Refusing v (headTold v (length out)) (headMemory v out) out
 unfolding headRules
 head-refuses v out = record { by-eight = λ e. rw (bad-first v _ e); untouched = λ e. rw (bad-first v _ e) }
 
-pub frame-refuses : (v : View) (samples : List ℤ) (out : List ℕ) → Refusing v (frameTold v samples (length out)) (frameMemory v samples out) out
-unfolding frameTold frameMemory frameRules
+pub frame-refuses : (v : EncoderView) (samples : List ℤ) (out : List ℕ) → Refusing v (frameTold v samples (length out)) (frameMemory v samples out) out
+unfolding frameTold frameMemory encodeRules
 frame-refuses v samples out = record { by-eight = λ e. rw (bad-first v _ e); untouched = λ e. rw (bad-first v _ e) }
 
-pub file-refuses : (v : View) (samples : List ℤ) (out : List ℕ) → Refusing v (shotTold (shotRules v samples (length out)) v samples) (shotMemory (shotRules v samples (length out)) v samples out) out
+pub file-refuses : (v : EncoderView) (samples : List ℤ) (out : List ℕ) → Refusing v (shotTold (shotRules v samples (length out)) v samples) (shotMemory (shotRules v samples (length out)) v samples out) out
 unfolding shotTold shotMemory shotRules
 file-refuses v samples out = record { by-eight = λ e. rw (bad-first v _ e); untouched = λ e. rw (bad-first v _ e) }
 
@@ -74,10 +74,10 @@ module _ (block : List ℕ) (told : Told) (memory out : List ℕ) (refusing : Re
   pub head-unread : (r : ℤ) → r ≡ codedEncode (refuses 8) → HeadLinked block told memory out r out
   head-unread r code = record { answer = code ∙ ap codedEncode (sym unread-told); bytes = unread-out }
 
-  pub encode-unread : (next : View) (r : ℤ) → r ≡ codedEncode (refuses 8) → EncodeLinked block told next memory out r block out
+  pub encode-unread : (next : EncoderView) (r : ℤ) → r ≡ codedEncode (refuses 8) → EncodeLinked block told next memory out r block out
   encode-unread next r code = record {
     answer = code ∙ ap codedEncode (sym unread-told);
-    state = ap (λ (t : Told). blockLeft t next block) (sym unread-told);
+    state = ap (λ (t : Told). encoderLeft t next block) (sym unread-told);
     bytes = unread-out;
   }
 
@@ -88,8 +88,8 @@ unfolding readableEncoder
 is-one block e = and-left (isEncoder block) (leb (byteIn block 0) maxChannels) e
 
 -- the state that is handed back is the next one
-pub handed : (t : Told) (given back : QoaEncoder) (next : View) (block : List ℕ) → HandsBack t given next back → blockLeft t (view back) block ≡ blockLeft t next block
-handed (wrote n) given back next block h = ap (λ (v : View). blockLeft (wrote n) v block) h
+pub handed : (t : Told) (given back : QoaEncoder) (next : EncoderView) (block : List ℕ) → HandsBack t given next back → encoderLeft t (encoderView back) block ≡ encoderLeft t next block
+handed (wrote n) given back next block h = ap (λ (v : EncoderView). encoderLeft (wrote n) v block) h
 handed (refuses n) given back next block h = refl
 handed (refuses-14 count channel) given back next block h = refl
 
@@ -97,7 +97,7 @@ module _ (block : List ℕ) (e : readableEncoder block ≡ true) (told : Told) (
   pub head-read : HeadLinked block told memory out r memory
   head-read = let is = is-one block e in record { answer = code ∙ rw is; bytes = rw is }
 
-  pub encode-read : (given back : QoaEncoder) (next : View) (block' : List ℕ) → block' ≡ blockLeft told (view back) block → HandsBack told given next back → EncodeLinked block told next memory out r block' memory
+  pub encode-read : (given back : QoaEncoder) (next : EncoderView) (block' : List ℕ) → block' ≡ encoderLeft told (encoderView back) block → HandsBack told given next back → EncodeLinked block told next memory out r block' memory
   encode-read given back next block' kept h =
       let is = is-one block e in
       record { answer = code ∙ rw is; state = kept ∙ handed told given back next block h ∙ rw is; bytes = rw is }

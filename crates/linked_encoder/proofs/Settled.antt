@@ -4,7 +4,7 @@ use mathlib.Core.Path.{_≡_, sym, _∙_}
 use mathlib.Core.List.{List}
 use lib.IntN.{ℤ, pos}
 use Rattle.encoder.specs.Calls.{Told}
-use Rattle.encoder.specs.Encoder.{View}
+use Rattle.encoder.specs.Encoder.{EncoderView}
 use Rattle.block.specs.EncoderBlock.{encoderSize}
 use Rattle.linked_encoder.specs.Linked.{EncodeLinked, FileLinked, FrameLinked, HeaderLinked, NewLinked}
 
@@ -13,7 +13,7 @@ same : {A : Type 0} {x r s : A} → r ≡ x → s ≡ x → r ≡ s
 same p q = p ∙ sym q
 
 -- a call after which the state goes on
-linked : (block : List ℕ) (told : Told) (next : View) (memory out : List ℕ) (r s : ℤ) (x y v w : List ℕ)
+linked : (block : List ℕ) (told : Told) (next : EncoderView) (memory out : List ℕ) (r s : ℤ) (x y v w : List ℕ)
     → EncodeLinked block told next memory out r x v → EncodeLinked block told next memory out s y w → (r ≡ s) × (x ≡ y) × (v ≡ w)
 linked block told next memory out r s x y v w p q = (same (p .answer) (q .answer), same (p .state) (q .state), same (p .bytes) (q .bytes))
 

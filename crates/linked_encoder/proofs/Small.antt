@@ -6,11 +6,11 @@ use mathlib.Core.Option.{Option, none, some}
 use native.Mathlib.Omega.{arith}
 use lib.Dec.{lit<}
 use lib.IntN.{ℤ}
-use Rattle.word.specs.Rules.{firstOf}
-use Rattle.header.specs.Format.{frameLength}
+use Rattle.refusal.specs.Rules.{firstOf}
+use Rattle.format.specs.Format.{frameLength}
 use Rattle.encoder.specs.Calls.{frameTold, headTold, ifSome, refuses, refuses-14, wrote}
-use Rattle.encoder.specs.Encoder.{View}
-use Rattle.encoder.specs.Frame.{firstWide, frameRules, perChannel}
+use Rattle.encoder.specs.Encoder.{EncoderView}
+use Rattle.encoder.specs.Frame.{firstWide, encodeRules, perChannel}
 use Rattle.encoder.specs.Head.{headRules}
 use Rattle.encoder.proofs.Done.{frame-fits}
 use Rattle.encoder.proofs.Frames.{frame-small}
@@ -20,18 +20,18 @@ use Rattle.oneshot.specs.Shots.{shotTold}
 use Rattle.oneshot.proofs.Ends.{shot-fits}
 use Rattle.oneshot.proofs.Small.{told-small}
 
-pub head-small : (v : View) (room : ℕ) → Small (headTold v room)
+pub head-small : (v : EncoderView) (room : ℕ) → Small (headTold v room)
 head-small v room = by (firstOf (headRules v room))
   where
     by : (o : Option ℕ) → Small (ifSome o refuses (wrote 8))
     by none = lit< tt
     by (some n) = tt
 
-pub frame-told-small : (v : View) (samples : List ℤ) (room : ℕ) → Small (frameTold v samples room)
+pub frame-told-small : (v : EncoderView) (samples : List ℤ) (room : ℕ) → Small (frameTold v samples room)
 unfolding frameTold
-frame-told-small v samples room = by (firstOf (frameRules v samples room)) (firstWide (v .channels) (v .lms)) refl refl
+frame-told-small v samples room = by (firstOf (encodeRules v samples room)) (firstWide (v .channels) (v .lms)) refl refl
   where
-    by : (o w : Option ℕ) → firstOf (frameRules v samples room) ≡ o → firstWide (v .channels) (v .lms) ≡ w
+    by : (o w : Option ℕ) → firstOf (encodeRules v samples room) ≡ o → firstWide (v .channels) (v .lms) ≡ w
         → Small (ifSome o refuses (ifSome w (refuses-14 0) (wrote (frameLength (v .channels) (perChannel v samples)))))
     by (some n) w e f = tt
     by none (some j) e f = lit< tt
@@ -39,5 +39,5 @@ frame-told-small v samples room = by (firstOf (frameRules v samples room)) (firs
         let fits = frame-fits v samples room e f .0 in
         omega (arith, frame-small (v .channels) (perChannel v samples) (fits .few-channels) (fits .few-samples))
 
-pub file-told-small : (v : View) (samples : List ℤ) (room : ℕ) → v .total < 2 ^ 32 → Small (shotTold (shotRules v samples room) v samples)
+pub file-told-small : (v : EncoderView) (samples : List ℤ) (room : ℕ) → v .total < 2 ^ 32 → Small (shotTold (shotRules v samples room) v samples)
 file-told-small v samples room l = told-small (shotRules v samples room) v samples room l (shot-fits v samples room)

@@ -6,11 +6,11 @@ use mathlib.Core.List.{List, [], _∷_, _++_}
 use lib.Dec.{ltb}
 use lib.IntN.{ℤ}
 use lib.ListN.{length}
-use Rattle.word.specs.Rules.{Rule, after, firstOf, good, _gives_}
+use Rattle.refusal.specs.Rules.{Rule, after, firstOf, good, _gives_}
 use Rattle.encoder.specs.Calls.{Told, frameMemory, frameTold, headMemory, headTold, ifSome, onto, refuses, refuses-14, wrote}
-use Rattle.encoder.specs.Encoder.{View, createRules, newView}
+use Rattle.encoder.specs.Encoder.{EncoderView, createRules, newView}
 use Rattle.encoder.specs.Frame.{afterFrame}
-use Rattle.oneshot.specs.OneShot.{before, framesOf, shotRules}
+use Rattle.oneshot.specs.OneShot.{stateBefore, framesOf, shotRules}
 use Rattle.oneshot.specs.Shots.{shotMemory, shotTold}
 use Rattle.block.specs.EncoderBlock.{encoderBytes, encoderIn, encoderSize, isEncoder}
 use Rattle.codes.specs.Codes.{coded, codedEncode}
@@ -20,10 +20,10 @@ abbrev pub toldBy : List ℕ → Told → Told
 toldBy block told = cond (isEncoder block) told (refuses 8)
 
 -- the block after a call: as it was on a refusal, else the next state's at its start
-abbrev pub blockLeft : Told → View → List ℕ → List ℕ
-blockLeft (wrote n) next block = onto block (encoderBytes next)
-blockLeft (refuses n) next block = block
-blockLeft (refuses-14 count channel) next block = block
+abbrev pub encoderLeft : Told → EncoderView → List ℕ → List ℕ
+encoderLeft (wrote n) next block = onto block (encoderBytes next)
+encoderLeft (refuses n) next block = block
+encoderLeft (refuses-14 count channel) next block = block
 
 -- the output: as it was where the block is no state, else what the call leaves
 abbrev pub outLeft : List ℕ → List ℕ → List ℕ → List ℕ
@@ -35,9 +35,9 @@ pub record HeadLinked (block : List ℕ) (told : Told) (memory out : List ℕ) (
   pub bytes : out' ≡ outLeft block memory out
 
 -- a call after which the state goes on
-pub record EncodeLinked (block : List ℕ) (told : Told) (next : View) (memory out : List ℕ) (r : ℤ) (block' out' : List ℕ) : Type 0 where
+pub record EncodeLinked (block : List ℕ) (told : Told) (next : EncoderView) (memory out : List ℕ) (r : ℤ) (block' out' : List ℕ) : Type 0 where
   pub answer : r ≡ codedEncode (toldBy block told)
-  pub state : block' ≡ blockLeft (toldBy block told) next block
+  pub state : block' ≡ encoderLeft (toldBy block told) next block
   pub bytes : out' ≡ outLeft block memory out
 
 -- the file header, a frame, a whole file
@@ -52,7 +52,7 @@ abbrev pub FileLinked : List ℕ → List ℤ → List ℕ → ℤ → List ℕ 
 FileLinked block samples out r block' out' =
     let v = encoderIn block in
     let rules = shotRules v samples (length out) in
-    EncodeLinked block (shotTold rules v samples) (before v samples (framesOf v)) (shotMemory rules v samples out) out r block' out'
+    EncodeLinked block (shotTold rules v samples) (stateBefore v samples (framesOf v)) (shotMemory rules v samples out) out r block' out'
 
 -- creation: 11, 12, 13; 7 where the block is too short
 abbrev pub newRules : ℕ → ℕ → ℕ → ℕ → List Rule

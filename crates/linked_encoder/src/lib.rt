@@ -4,17 +4,17 @@ ghost use Prim.Native.Nat.{_≤_};
 ghost use lib.IntN.{pos};
 ghost use lib.ListN.{length};
 ghost use Rattle.encoder.specs.Calls.{toldEncode};
-ghost use Rattle.encoder.specs.Encoder.{view};
+ghost use Rattle.encoder.specs.Encoder.{encoderView};
 ghost use Rattle.block.specs.EncoderBlock.{encoderSize};
-ghost use Rattle.linked_encoder.specs.Linked.{FileLinked, FrameLinked, HeaderLinked, NewLinked, blockLeft};
+ghost use Rattle.linked_encoder.specs.Linked.{FileLinked, FrameLinked, HeaderLinked, NewLinked, encoderLeft};
 use block::ENCODER_SIZE;
 use codes::count;
 use codes::encoded;
 use codes::minus;
-use encoder::CreateAnswer;
 use encoder::EncodeAnswer;
 use encoder::QoaEncoder;
-use header::refusal::Refusal;
+use refusal::Checked;
+use refusal::Refusal;
 
 // The bytes of an encoder's block.
 #[no_mangle]
@@ -32,8 +32,8 @@ pub extern "C" fn qoa_encoder_new(channels: u8, rate: u32, total: u32, state: &m
     let created = encoder::new_encoder(channels, rate, total);
     let answer = created.answer;
     match answer {
-        CreateAnswer::Refused(r) => minus(r),
-        CreateAnswer::Created => {
+        Checked::Refused(r) => minus(r),
+        Checked::Passed => {
             if state.len() < ENCODER_SIZE {
                 return minus(Refusal::OutputTooSmall);
             }
@@ -61,7 +61,7 @@ pub extern "C" fn qoa_encoder_header(state: &[u8], out: &mut [u8]) -> i64
 // Stores the state after an accepted call.
 fn keep(state: &mut [u8], answer: EncodeAnswer, after: QoaEncoder)
     requires { ⌜ encoderSize ≤ length (now state) ⌝ }
-    ensures { λ r. ⌜ now (state .exit) ≡ blockLeft (toldEncode answer) (view after) (now (state .entry)) ⌝ }
+    ensures { λ r. ⌜ now (state .exit) ≡ encoderLeft (toldEncode answer) (encoderView after) (now (state .entry)) ⌝ }
 {
     match answer {
         EncodeAnswer::Written(_) => block::write_encoder(state, after),

@@ -15,8 +15,9 @@ use Rattle.wrap.specs.Wrap.{wrap32}
 use Rattle.wrap.proofs.Elements.{everywhere}
 use Rattle.wrap.proofs.Integers.{abs-add, abs-fits, abs-shift, abs-sub, mag-shift}
 use Rattle.wrap.proofs.Modulo.{wrap32-fits}
-use Rattle.lms.specs.Predictor.{above, at, clamp16, dot, newLms, nextWeight, penaltyOf, pick, predicted, stepped, updated, HistoryFits, WeightsWithin}
+use Rattle.lms.specs.Predictor.{above, at, clamp16, dot, newLms, nextWeight, penaltyOf, pick, predicted, stepped, updated}
 use Rattle.lms.specs.declared.QoaLms.{QoaLms}
+use Rattle.lms.specs.Parts.{HistoryFits, WeightsWithin}
 
 -- ---- prediction, penalty and reconstruction
 

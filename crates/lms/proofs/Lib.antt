@@ -1,2 +1,3 @@
 -- What the proofs of this crate and of those above it cite.
 pub mod Bounds
+pub mod Shorts

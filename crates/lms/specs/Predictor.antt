@@ -1,14 +1,14 @@
 -- The predictor, over the integers. What wraps is wrapped once, at the end.
 -- Assumes nothing.
-use Prim.Native.Nat.{ℕ, min, _+_, _-_, _*_, _^_, _≤_}
+use Prim.Native.Nat.{ℕ, min, _+_, _-_, _*_, _^_}
 use mathlib.Core.Bool.{Bool, true, false}
 use mathlib.Core.List.{List, [], _∷_}
-use lib.ListN.{getD}
+use lib.Dec.{ltb}
+use lib.ListN.{getD, length, replicate}
 use lib.IntN.{ℤ, natAbs, pos, negsuc, _+ℤ_, _-ℤ_, _*ℤ_}
-use lib.Signed.{shrZ, ltZ}
-use mir.Syntax.{w16}
-use mir.Val.{SFits}
+use lib.Signed.{mag, shrZ, ltZ}
 use Rattle.wrap.specs.Wrap.{wrap32}
+use Rattle.word.specs.Below.{below}
 use Rattle.lms.specs.declared.QoaLms.{QoaLms}
 
 -- the number at place i of a list, and 0 past its end
@@ -19,13 +19,13 @@ at xs i = getD xs i (pos 0)
 unfoldable pub newLms : QoaLms
 newLms = record { history = pos 0 ∷ pos 0 ∷ pos 0 ∷ pos 0 ∷ []; weights = pos 0 ∷ pos 0 ∷ negsuc 8191 ∷ pos 16384 ∷ [] }
 
+-- one that is all zero
+abbrev pub zeroLms : QoaLms
+zeroLms = record { history = replicate 4 (pos 0); weights = replicate 4 (pos 0) }
+
 -- the sum of the four products
 unfoldable pub dot : List ℤ → List ℤ → ℤ
 dot a b = at a 0 *ℤ at b 0 +ℤ at a 1 *ℤ at b 1 +ℤ (at a 2 *ℤ at b 2 +ℤ at a 3 *ℤ at b 3)
-
--- the sum of the three older ones
-unfoldable pub olderDot : List ℤ → List ℤ → ℤ
-olderDot a b = at a 0 *ℤ at b 0 +ℤ at a 1 *ℤ at b 1 +ℤ at a 2 *ℤ at b 2
 
 -- the prediction: the wrapped sum of weight times history, shifted right 13 keeping the sign
 unfoldable pub predicted : QoaLms → ℤ
@@ -64,14 +64,14 @@ updated lms sample residual = record {
   weights = nextWeight lms residual 0 ∷ nextWeight lms residual 1 ∷ nextWeight lms residual 2 ∷ nextWeight lms residual 3 ∷ [];
 }
 
--- every weight is at most B in magnitude
-pub record WeightsWithin (B : ℕ) (lms : QoaLms) : Type 0 where
-  pub bound : (i : ℕ) → natAbs (at (lms .weights) i) ≤ B
-
--- every history number is one of 16 bits
-pub record HistoryFits (lms : QoaLms) : Type 0 where
-  pub fit : (i : ℕ) → SFits w16 (at (lms .history) i)
-
 -- a sample's cost: its squared error plus the squared penalty
 unfoldable pub costOf : ℤ → ℤ → ℕ → ℕ
 costOf sample reconstructed penalty = natAbs (sample -ℤ reconstructed) * natAbs (sample -ℤ reconstructed) + penalty * penalty
+
+-- numbers in -32768..32767
+unfoldable pub allShort : List ℤ → Bool
+allShort xs = below (length xs) (λ i. ltb (mag (at xs i)) 32768)
+
+-- histories in 16 bits
+unfoldable pub historyRule : QoaLms → Bool
+historyRule lms = allShort (lms .history)

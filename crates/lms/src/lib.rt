@@ -6,7 +6,10 @@ ghost use lib.Dec.{ltb};
 ghost use lib.IntN.{ℤ, natAbs, _+ℤ_, _*ℤ_};
 ghost use lib.Signed.{mag};
 ghost use Rattle.wrap.specs.Wrap.{low32, wrap32};
-ghost use Rattle.lms.specs.Predictor.{clamp16, costOf, dot, newLms, olderDot, predicted, penaltyOf, stepped, updated, WeightsWithin};
+ghost use Rattle.lms.specs.Predictor.{allShort, clamp16, costOf, dot, newLms, predicted, penaltyOf, stepped, updated};
+ghost use Rattle.lms.specs.Parts.{olderDot, WeightsWithin};
+
+pub const QOA_LMS_LEN: usize = 4;
 
 // Four numbers of history, the newest last, and a weight for each.
 pub struct QoaLms {
@@ -141,4 +144,16 @@ pub fn is_short(x: i32) -> bool
     ensures { λ r. ⌜ r ≡ ltb (mag x) 32768 ⌝ }
 {
     if x < -32768 { false } else { x <= 32767 }
+}
+
+// Numbers of 16 bits.
+pub fn are_short(xs: [i32; 4]) -> bool
+    ensures { λ r. ⌜ r ≡ allShort xs ⌝ }
+{
+    for i in 0..QOA_LMS_LEN {
+        if !is_short(xs[i]) {
+            return false;
+        }
+    }
+    true
 }

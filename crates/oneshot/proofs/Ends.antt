@@ -6,26 +6,26 @@ use mathlib.Core.Option.{none, some}
 use native.Mathlib.Omega.{arith}
 use lib.IntN.{ℤ}
 use lib.ListN.{length}
-use Rattle.word.specs.Rules.{Rule, firstOf}
-use Rattle.word.proofs.Rules.{fires-left, fires-right, quiet}
+use Rattle.refusal.specs.Rules.{Rule, firstOf}
+use Rattle.refusal.proofs.Rules.{fires-left, fires-right, quiet}
 use Rattle.word.proofs.Tests.{tests}
-use Rattle.encoder.specs.Encoder.{View, view, createRules, newView}
+use Rattle.encoder.specs.Encoder.{EncoderView, encoderView, createRules, newView}
 use Rattle.encoder.specs.Calls.{onto, refuses, refuses-14, toldEncode, wrote}
 use Rattle.encoder.specs.declared.EncodeAnswer.{EncodeAnswer}
 use Rattle.encoder.specs.declared.EncodedBytes.{EncodedBytes}
 use Rattle.encoder.specs.declared.QoaEncoder.{QoaEncoder}
 use Rattle.encoder.proofs.Done.{good-left}
 use Rattle.encoder.proofs.GoodEncoders.{Good}
-use Rattle.oneshot.specs.OneShot.{Stop, before, bytesBefore, fileBytes, fileNeed, framesOf, shotRules, stopIn}
+use Rattle.oneshot.specs.OneShot.{Stop, stateBefore, bytesBefore, fileBytes, fileNeed, framesOf, shotRules, stopIn}
 use Rattle.oneshot.specs.Shots.{AllDone, ShotDone, shotMemory, shotTold}
 
 -- what the rules leave
-pub record Shot (v : View) (samples : List ℤ) (room : ℕ) : Type 0 where
+pub record Shot (v : EncoderView) (samples : List ℤ) (room : ℕ) : Type 0 where
   pub good-state : Good v
   pub long : length samples ≡ v .total * v .channels
   pub enough : fileNeed v ≤ room
 
-pub shot-fits : (v : View) (samples : List ℤ) (room : ℕ) → firstOf (shotRules v samples room) ≡ none → Shot v samples room
+pub shot-fits : (v : EncoderView) (samples : List ℤ) (room : ℕ) → firstOf (shotRules v samples room) ≡ none → Shot v samples room
 unfolding shotRules
 shot-fits v samples room e =
     let q = quiet (shotRules v samples room) e .1 in
@@ -33,20 +33,20 @@ shot-fits v samples room e =
 
 module _ (e : QoaEncoder) (samples : List ℤ) (out : List ℕ) (r : EncodedBytes) (left : List ℕ) where
   abbrev shotsOf : List Rule
-  shotsOf = shotRules (view e) samples (length out)
+  shotsOf = shotRules (encoderView e) samples (length out)
 
   pub shot-refused : (n : ℕ) → firstOf shotsOf ≡ some n → toldEncode (r .answer) ≡ refuses n → left ≡ out → r .state ≡ e → ShotDone e samples out r left
   unfolding shotTold shotMemory
   shot-refused n fired t m s = record { told = rw fired t; memory = rw fired m; back = rw fired s }
 
-  pub shot-wide : (stop : Stop) → firstOf shotsOf ≡ none → stopIn (view e) samples (framesOf (view e)) ≡ some stop
-      → toldEncode (r .answer) ≡ refuses-14 (length (bytesBefore (view e) samples (stop .frame))) (stop .channel) → left ≡ onto out (bytesBefore (view e) samples (stop .frame)) → r .state ≡ e
+  pub shot-wide : (stop : Stop) → firstOf shotsOf ≡ none → stopIn (encoderView e) samples (framesOf (encoderView e)) ≡ some stop
+      → toldEncode (r .answer) ≡ refuses-14 (length (bytesBefore (encoderView e) samples (stop .frame))) (stop .channel) → left ≡ onto out (bytesBefore (encoderView e) samples (stop .frame)) → r .state ≡ e
       → ShotDone e samples out r left
   unfolding shotTold shotMemory
   shot-wide stop quiet wide t m s = record { told = rw (quiet, wide) t; memory = rw (quiet, wide) m; back = rw (quiet, wide) s }
 
-  pub shot-done : firstOf shotsOf ≡ none → stopIn (view e) samples (framesOf (view e)) ≡ none → toldEncode (r .answer) ≡ wrote (fileNeed (view e)) → left ≡ onto out (fileBytes (view e) samples)
-      → view (r .state) ≡ before (view e) samples (framesOf (view e)) → ShotDone e samples out r left
+  pub shot-done : firstOf shotsOf ≡ none → stopIn (encoderView e) samples (framesOf (encoderView e)) ≡ none → toldEncode (r .answer) ≡ wrote (fileNeed (encoderView e)) → left ≡ onto out (fileBytes (encoderView e) samples)
+      → encoderView (r .state) ≡ stateBefore (encoderView e) samples (framesOf (encoderView e)) → ShotDone e samples out r left
   unfolding shotTold shotMemory
   shot-done quiet wide t m s = record { told = rw (quiet, wide) t; memory = rw (quiet, wide) m; back = rw (quiet, wide) s }
 
@@ -61,7 +61,7 @@ module _ (c rate total : ℕ) (samples : List ℤ) (out : List ℕ) (r : EncodeA
       let first = fires-left (createRules c rate total) later n fired in
       record { told = rw first t; memory = rw first m }
 
-  pub all-done : (s : QoaEncoder) (done : EncodedBytes) → firstOf (createRules c rate total) ≡ none → view s ≡ newView c rate total → r ≡ done .answer → ShotDone s samples out done left
+  pub all-done : (s : QoaEncoder) (done : EncodedBytes) → firstOf (createRules c rate total) ≡ none → encoderView s ≡ newView c rate total → r ≡ done .answer → ShotDone s samples out done left
       → AllDone c rate total samples out r left
   unfolding shotTold shotMemory
   all-done s done quiet new same d =

@@ -10,10 +10,10 @@ use native.Mathlib.Omega.{arith}
 use lib.IntN.{ℤ}
 use lib.ListN.{length, take, drop, length-append, length-drop, length-take}
 use lib.Seq.{drop-append-add, drop-drop, take-all}
-use Rattle.header.specs.Format.{frameLength, slicesOf, stateEnd}
-use Rattle.encoder.specs.Encoder.{View, view}
+use Rattle.format.specs.Format.{frameLength, slicesOf, stateEnd}
+use Rattle.encoder.specs.Encoder.{EncoderView, encoderView}
 use Rattle.encoder.specs.Frame.{afterFrame, firstWide, frameBytes, perChannel}
-use Rattle.oneshot.specs.OneShot.{Stop, before, bytesBefore, chunk, fileBytes, fileNeed, framesIn, framesOf, needOf, stopIn}
+use Rattle.oneshot.specs.OneShot.{Stop, stateBefore, bytesBefore, chunk, fileBytes, fileNeed, framesIn, framesOf, needOf, stopIn}
 use Rattle.encoder.specs.Calls.{onto}
 use Rattle.body.specs.Laid.{overlaid}
 use Rattle.encoder.specs.Parts.{FrameFits}
@@ -69,24 +69,24 @@ min-scaled d c =
     (λ less. let m : min 5120 d ≡ 5120 = omega arith in rw m (omega (arith, mul-le-mul-right c less)))
     (λ more. let under : d ≤ 5120 = omega arith in let m : min 5120 d ≡ d = omega arith in rw m (omega (arith, mul-le-mul-right c under)))
 
-module _ (v : View) (samples : List ℤ) where
-  pub before-channels : (f : ℕ) → before v samples f .channels ≡ v .channels
-  unfolding before afterFrame
+module _ (v : EncoderView) (samples : List ℤ) where
+  pub before-channels : (f : ℕ) → stateBefore v samples f .channels ≡ v .channels
+  unfolding stateBefore afterFrame
   before-channels zero = refl
   before-channels (suc f) = before-channels f
 
-  pub before-good : Good v → (f : ℕ) → Good (before v samples f)
-  unfolding before
+  pub before-good : Good v → (f : ℕ) → Good (stateBefore v samples f)
+  unfolding stateBefore
   before-good g zero = g
-  before-good g (suc f) = after-good (before v samples f) (chunk (v .channels) samples f) (before-good g f)
+  before-good g (suc f) = after-good (stateBefore v samples f) (chunk (v .channels) samples f) (before-good g f)
 
   -- ---- where a weight is too wide
 
-  pub stop-more : (f : ℕ) → stopIn v samples f ≡ none → firstWide (v .channels) (before v samples f .lms) ≡ none → stopIn v samples (suc f) ≡ none
+  pub stop-more : (f : ℕ) → stopIn v samples f ≡ none → firstWide (v .channels) (stateBefore v samples f .lms) ≡ none → stopIn v samples (suc f) ≡ none
   unfolding stopIn
   stop-more f e w = rw (e, w)
 
-  pub stop-here : (f j : ℕ) → stopIn v samples f ≡ none → firstWide (v .channels) (before v samples f .lms) ≡ some j → stopIn v samples (suc f) ≡ some (record { frame = f; channel = j })
+  pub stop-here : (f j : ℕ) → stopIn v samples f ≡ none → firstWide (v .channels) (stateBefore v samples f .lms) ≡ some j → stopIn v samples (suc f) ≡ some (record { frame = f; channel = j })
   unfolding stopIn
   stop-here f j e w = rw (e, w)
 
@@ -108,7 +108,7 @@ module _ (v : View) (samples : List ℤ) where
         let rest : length samples - 5120 * c * f ≡ d * c = omega (arith, long, ap (λ (t : ℕ). t * c) cut) in
         rw (length-take, length-drop, rest) (min-scaled d c)
 
-    pub per-chunk : (f : ℕ) → 5120 * f ≤ v .total → perChannel (before v samples f) (chunk (v .channels) samples f) ≡ countIn (v .total) f
+    pub per-chunk : (f : ℕ) → 5120 * f ≤ v .total → perChannel (stateBefore v samples f) (chunk (v .channels) samples f) ≡ countIn (v .total) f
     per-chunk f h = rw (before-channels f, chunk-long f h) (mul-div-left (countIn (v .total) f) some-channels)
 
     pub length-before : (f : ℕ) → f ≤ framesOf v → length (bytesBefore v samples f) ≡ 8 + (f * stateEnd (v .channels) + 8 * (v .channels * slicesOf (min (5120 * f) (v .total))))
@@ -118,7 +118,7 @@ module _ (v : View) (samples : List ℤ) where
         omega (arith, length-head (v .total), ap (λ (n : ℕ). v .channels * n) none)
     length-before (suc f) h =
         let c = v .channels in
-        let w = before v samples f in
+        let w = stateBefore v samples f in
         let xs = chunk c samples f in
         let within : 5120 * f ≤ v .total = omega arith in
         let frame : length (frameBytes w xs) ≡ frameLength c (countIn (v .total) f) = length-frame w xs ∙ ap₂ frameLength (before-channels f) (per-chunk f within) in
@@ -157,22 +157,22 @@ module _ (v : View) (samples : List ℤ) where
 
     -- ---- one frame more, from a state that means the one before it
 
-    module _ (g : Good v) (s : QoaEncoder) (f : ℕ) (same : view s ≡ before v samples f) (h : f < framesOf v) where
+    module _ (g : Good v) (s : QoaEncoder) (f : ℕ) (same : encoderView s ≡ stateBefore v samples f) (h : f < framesOf v) where
       within : 5120 * f < v .total
       unfolding framesIn
       within = omega arith
 
       channels-are : s .channels ≡ v .channels
-      unfolding view
-      channels-are = ap (λ (w : View). w .channels) same ∙ before-channels f
+      unfolding encoderView
+      channels-are = ap (λ (w : EncoderView). w .channels) same ∙ before-channels f
 
       -- the first wide channel
-      pub wide-now : firstWide (v .channels) (s .lms) ≡ firstWide (v .channels) (before v samples f .lms)
+      pub wide-now : firstWide (v .channels) (s .lms) ≡ firstWide (v .channels) (stateBefore v samples f .lms)
       wide-now =
           ap (λ (c : ℕ). firstWide c (s .lms)) (sym channels-are)
           ∙ wide-view s
-          ∙ ap (λ (w : View). firstWide (w .channels) (w .lms)) same
-          ∙ ap (λ (c : ℕ). firstWide c (before v samples f .lms)) (before-channels f)
+          ∙ ap (λ (w : EncoderView). firstWide (w .channels) (w .lms)) same
+          ∙ ap (λ (c : ℕ). firstWide c (stateBefore v samples f .lms)) (before-channels f)
 
       -- what `put_chunk` asks
       pub chunk-starts : 5120 * s .channels * f ≤ length samples
@@ -181,9 +181,9 @@ module _ (v : View) (samples : List ℤ) where
           let less : 5120 * f ≤ v .total = omega arith in
           rw channels-are (omega (arith, long, mul-le-mul-right (v .channels) less))
 
-      pub chunk-fits : firstWide (v .channels) (before v samples f .lms) ≡ none → FrameFits (view s) (chunk (s .channels) samples f)
+      pub chunk-fits : firstWide (v .channels) (stateBefore v samples f .lms) ≡ none → FrameFits (encoderView s) (chunk (s .channels) samples f)
       chunk-fits narrow =
-          let w = before v samples f in
+          let w = stateBefore v samples f in
           let xs = chunk (v .channels) samples f in
           let inside = within in
           let count : perChannel w xs ≡ countIn (v .total) f = per-chunk f (omega arith) in
@@ -200,19 +200,19 @@ module _ (v : View) (samples : List ℤ) where
           } in
           rw (same, channels-are) fits
 
-      pub chunk-room : framePlace (s .channels) f + frameLength (s .channels) (perChannel (view s) (chunk (s .channels) samples f)) ≤ fileNeed v
+      pub chunk-room : framePlace (s .channels) f + frameLength (s .channels) (perChannel (encoderView s) (chunk (s .channels) samples f)) ≤ fileNeed v
       chunk-room = let inside = within in rw (same, channels-are, per-chunk f (omega arith)) (room-after f h)
 
       -- and what it leaves
-      pub view-next : afterFrame (view s) (chunk (s .channels) samples f) ≡ before v samples (suc f)
-      unfolding before
+      pub view-next : afterFrame (encoderView s) (chunk (s .channels) samples f) ≡ stateBefore v samples (suc f)
+      unfolding stateBefore
       view-next = rw (same, channels-are)
 
       pub chunk-over : (start : List ℕ) → length (bytesBefore v samples f) ≤ length start
-          → overlaid (onto start (bytesBefore v samples f)) (framePlace (s .channels) f) (frameBytes (view s) (chunk (s .channels) samples f)) ≡ onto start (bytesBefore v samples (suc f))
+          → overlaid (onto start (bytesBefore v samples f)) (framePlace (s .channels) f) (frameBytes (encoderView s) (chunk (s .channels) samples f)) ≡ onto start (bytesBefore v samples (suc f))
       unfolding bytesBefore
       chunk-over start room =
           let b = bytesBefore v samples f in
-          let x = frameBytes (before v samples f) (chunk (v .channels) samples f) in
+          let x = frameBytes (stateBefore v samples f) (chunk (v .channels) samples f) in
           rw (same, channels-are, ← over-start start b)
           (over-then start 0 (framePlace (v .channels) f) b x (omega (arith, place-before f h)) (omega arith) ∙ over-start start (b ++ x))

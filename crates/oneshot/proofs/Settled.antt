@@ -4,25 +4,26 @@ use mathlib.Core.Path.{_≡_, refl, sym, ap, _∙_}
 use mathlib.Core.List.{List}
 use lib.IntN.{ℤ}
 use lib.ListN.{length}
-use Rattle.word.specs.Rules.{after, good}
-use Rattle.header.proofs.Told.{answered, number-back, told-one}
-use Rattle.encoder.specs.Encoder.{view}
+use Rattle.refusal.specs.Rules.{after, good}
+use Rattle.refusal.proofs.Told.{told-count}
+use Rattle.encoder.specs.Encoder.{encoderView}
 use Rattle.encoder.specs.declared.EncodeAnswer.{EncodeAnswer}
 use Rattle.encoder.specs.declared.EncodedBytes.{EncodedBytes}
 use Rattle.encoder.specs.declared.QoaEncoder.{QoaEncoder}
 use Rattle.encoder.proofs.Settled.{back-one, told-encode}
-use Rattle.oneshot.specs.OneShot.{before, framesOf, needOf, needRules, shotRules}
-use Rattle.oneshot.specs.Shots.{AllDone, ShotDone, shotTold, toldNeed}
-use Rattle.oneshot.specs.declared.need.NeedAnswer as N
+use Rattle.oneshot.specs.OneShot.{stateBefore, framesOf, needOf, needRules, shotRules}
+use Rattle.oneshot.specs.Shots.{AllDone, ShotDone, shotTold}
+use Rattle.refusal.specs.Refusals.{toldCount}
+use Rattle.refusal.specs.declared.CountAnswer as N
 
 -- ---- encode
 
 pub shot-settled : (e : QoaEncoder) (samples : List ℤ) (out : List ℕ) (r s : EncodedBytes) (x y : List ℕ) → ShotDone e samples out r x → ShotDone e samples out s y
-    → (r .answer ≡ s .answer) × (x ≡ y) × (view (r .state) ≡ view (s .state))
+    → (r .answer ≡ s .answer) × (x ≡ y) × (encoderView (r .state) ≡ encoderView (s .state))
 shot-settled e samples out r s x y p q = (
   told-encode (r .answer) (s .answer) (p .told ∙ sym (q .told)),
   p .memory ∙ sym (q .memory),
-  back-one (shotTold (shotRules (view e) samples (length out)) (view e) samples) e (before (view e) samples (framesOf (view e))) (r .state) (s .state) (p .back) (q .back),
+  back-one (shotTold (shotRules (encoderView e) samples (length out)) (encoderView e) samples) e (stateBefore (encoderView e) samples (framesOf (encoderView e))) (r .state) (s .state) (p .back) (q .back),
 )
 
 -- ---- encode_all
@@ -33,8 +34,5 @@ all-settled c rate total samples out r s x y p q = (told-encode r s (p .told ∙
 
 -- ---- encode_need
 
-pub told-need : (a b : N.NeedAnswer) → toldNeed a ≡ toldNeed b → a ≡ b
-told-need = told-one toldNeed (answered N.the-variants.Bytes N.the-variants.Refused) (elim [ N.the-variants.Bytes n ↦ refl | N.the-variants.Refused r ↦ ap N.the-variants.Refused (number-back r) ])
-
-pub need-settled : (c total : ℕ) (a b : N.NeedAnswer) → toldNeed a ≡ after (needRules c total) (good (needOf c total)) → toldNeed b ≡ after (needRules c total) (good (needOf c total)) → a ≡ b
-need-settled c total a b p q = told-need a b (p ∙ sym q)
+pub need-settled : (c total : ℕ) (a b : N.CountAnswer) → toldCount a ≡ after (needRules c total) (good (needOf c total)) → toldCount b ≡ after (needRules c total) (good (needOf c total)) → a ≡ b
+need-settled c total a b p q = told-count a b (p ∙ sym q)

@@ -7,14 +7,14 @@ use native.Mathlib.Nat.{lt-of-le-of-lt, mul-le-mul-left, mul-le-mul-right}
 use native.Mathlib.Omega.{arith}
 use lib.IntN.{ℤ}
 use lib.ListN.{length}
-use Rattle.word.specs.Rules.{Rule, after, firstOf, good}
-use Rattle.word.proofs.Rules.{after-good, good-same}
+use Rattle.refusal.specs.Rules.{Rule, after, firstOf, good}
+use Rattle.refusal.proofs.Rules.{after-good, good-same}
 use Rattle.word.proofs.Tests.{tests}
-use Rattle.header.specs.Format.{maxChannels, slicesOf, stateEnd}
+use Rattle.format.specs.Format.{maxChannels, slicesOf, stateEnd}
 use Rattle.encoder.specs.Calls.{ifSome, refuses, refuses-14, wrote}
-use Rattle.encoder.specs.Encoder.{View}
+use Rattle.encoder.specs.Encoder.{EncoderView}
 use Rattle.encoder.specs.Frame.{firstWide}
-use Rattle.oneshot.specs.OneShot.{Stop, before, bytesBefore, fileNeed, framesIn, framesOf, needOf, needRules, orStop, stopAt, stopIn}
+use Rattle.oneshot.specs.OneShot.{Stop, stateBefore, bytesBefore, fileNeed, framesIn, framesOf, needOf, needRules, orStop, stopAt, stopIn}
 use Rattle.oneshot.specs.Parts.{Small}
 use Rattle.oneshot.specs.Shots.{shotTold}
 use Rattle.oneshot.proofs.Ends.{Shot}
@@ -56,14 +56,14 @@ later f none none s sooner e = let z : _≡_ {A = ℕ} 0 1 = cc in omega arith
 later f none (some j) s sooner e = let same : record { frame = f; channel = j } ≡ s = cc in let at = ap (λ (t : Stop). t .frame) same in omega arith
 later f (some t) w s sooner e = let same : t ≡ s = cc in let at = ap (λ (t : Stop). t .frame) same in let less = sooner t refl in omega arith
 
-stop-within : (v : View) (samples : List ℤ) (n : ℕ) (s : Stop) → stopIn v samples n ≡ some s → s .frame < n
+stop-within : (v : EncoderView) (samples : List ℤ) (n : ℕ) (s : Stop) → stopIn v samples n ≡ some s → s .frame < n
 unfolding stopIn
 stop-within v samples zero s e = let z : _≡_ {A = ℕ} 0 1 = cc in omega arith
-stop-within v samples (suc f) s e = later f (stopIn v samples f) (firstWide (v .channels) (before v samples f .lms)) s (λ t p. stop-within v samples f t p) e
+stop-within v samples (suc f) s e = later f (stopIn v samples f) (firstWide (v .channels) (stateBefore v samples f .lms)) s (λ t p. stop-within v samples f t p) e
 
 -- ---- the call
 
-module _ (rules : List Rule) (v : View) (samples : List ℤ) (room : ℕ) (l : v .total < 2 ^ 32) (fits : firstOf rules ≡ none → Shot v samples room) where
+module _ (rules : List Rule) (v : EncoderView) (samples : List ℤ) (room : ℕ) (l : v .total < 2 ^ 32) (fits : firstOf rules ≡ none → Shot v samples room) where
   file-small : Shot v samples room → fileNeed v < 2 ^ 40
   file-small shot = need-small (v .channels) (v .total) (shot .good-state .few-channels) l
 

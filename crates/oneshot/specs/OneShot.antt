@@ -6,9 +6,9 @@ use mathlib.Core.Option.{Option, none, some}
 use lib.Dec.{eqb, ltb}
 use lib.IntN.{ℤ}
 use lib.ListN.{length, take, drop}
-use Rattle.word.specs.Rules.{Rule, _gives_}
-use Rattle.header.specs.Format.{maxChannels, slicesOf, stateEnd}
-use Rattle.encoder.specs.Encoder.{View, goodEncoder}
+use Rattle.refusal.specs.Rules.{Rule, _gives_}
+use Rattle.format.specs.Format.{maxChannels, slicesOf, stateEnd}
+use Rattle.encoder.specs.Encoder.{EncoderView, goodEncoder}
 use Rattle.encoder.specs.Frame.{afterFrame, firstWide, frameBytes, frameSums}
 use Rattle.encoder.specs.Head.{headBytes}
 
@@ -20,39 +20,39 @@ chunk c samples f = take (5120 * c) (drop (5120 * c * f) samples)
 unfoldable pub framesIn : ℕ → ℕ
 framesIn total = (total + 5119) / 5120
 
-abbrev pub framesOf : View → ℕ
+abbrev pub framesOf : EncoderView → ℕ
 framesOf v = framesIn (v .total)
 
 -- the state before frame f
-unfoldable pub before : View → List ℤ → ℕ → View
-before v samples zero = v
-before v samples (suc f) = afterFrame (before v samples f) (chunk (v .channels) samples f)
+unfoldable pub stateBefore : EncoderView → List ℤ → ℕ → EncoderView
+stateBefore v samples zero = v
+stateBefore v samples (suc f) = afterFrame (stateBefore v samples f) (chunk (v .channels) samples f)
 
 -- the file header and the frames before frame f
-unfoldable pub bytesBefore : View → List ℤ → ℕ → List ℕ
+unfoldable pub bytesBefore : EncoderView → List ℤ → ℕ → List ℕ
 bytesBefore v samples zero = headBytes (v .total)
-bytesBefore v samples (suc f) = bytesBefore v samples f ++ frameBytes (before v samples f) (chunk (v .channels) samples f)
+bytesBefore v samples (suc f) = bytesBefore v samples f ++ frameBytes (stateBefore v samples f) (chunk (v .channels) samples f)
 
 -- all of them
-abbrev pub fileBytes : View → List ℤ → List ℕ
+abbrev pub fileBytes : EncoderView → List ℤ → List ℕ
 fileBytes v samples = bytesBefore v samples (framesOf v)
 
 -- the writer's reconstruction of those frames
-unfoldable pub sumsBefore : View → List ℤ → ℕ → List ℤ
+unfoldable pub sumsBefore : EncoderView → List ℤ → ℕ → List ℤ
 sumsBefore v samples zero = []
-sumsBefore v samples (suc f) = sumsBefore v samples f ++ frameSums (before v samples f) (chunk (v .channels) samples f)
+sumsBefore v samples (suc f) = sumsBefore v samples f ++ frameSums (stateBefore v samples f) (chunk (v .channels) samples f)
 
 -- the exact need: the file header, a header and predictor states for each frame, and the slices
 unfoldable pub needOf : ℕ → ℕ → ℕ
 needOf c total = 8 + (framesIn total * stateEnd c + 8 * (c * slicesOf total))
 
-abbrev pub fileNeed : View → ℕ
+abbrev pub fileNeed : EncoderView → ℕ
 fileNeed v = needOf (v .channels) (v .total)
 
 -- ---- the refusals
 
 -- 8; 13: the length is not total times channels; 7
-unfoldable pub shotRules : View → List ℤ → ℕ → List Rule
+unfoldable pub shotRules : EncoderView → List ℤ → ℕ → List Rule
 shotRules v samples room =
     (not (goodEncoder v) gives 8)
     ∷ (not (eqb (length samples) (v .total * v .channels)) gives 13)
@@ -80,6 +80,6 @@ abbrev pub stopAt : ℕ → Option ℕ → Option Stop
 stopAt f none = none
 stopAt f (some j) = some (record { frame = f; channel = j })
 
-unfoldable pub stopIn : View → List ℤ → ℕ → Option Stop
+unfoldable pub stopIn : EncoderView → List ℤ → ℕ → Option Stop
 stopIn v samples zero = none
-stopIn v samples (suc f) = orStop (stopIn v samples f) (stopAt f (firstWide (v .channels) (before v samples f .lms)))
+stopIn v samples (suc f) = orStop (stopIn v samples f) (stopAt f (firstWide (v .channels) (stateBefore v samples f .lms)))

@@ -1,6 +1,6 @@
 -- What the parts of the code answer. Assumes nothing.
 use Prim.Native.Nat.{ℕ, _+_, _*_, _<_, _^_}
-use Rattle.header.specs.Format.{frameLength}
+use Rattle.format.specs.Format.{frameLength}
 use Rattle.encoder.specs.Calls.{Told, refuses, refuses-14, wrote}
 
 -- where frame f of a file stands: after the file header and f full frames

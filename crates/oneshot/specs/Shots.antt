@@ -4,38 +4,31 @@ use mathlib.Core.Path.{_≡_}
 use mathlib.Core.List.{List, _++_}
 use lib.IntN.{ℤ}
 use lib.ListN.{length}
-use Rattle.word.specs.Rules.{Answer, good, refused, Rule, firstOf}
-use Rattle.header.specs.Refusals.{numberOf}
-use Rattle.encoder.specs.Encoder.{View, view, createRules, newView}
+use Rattle.refusal.specs.Rules.{Rule, firstOf}
+use Rattle.encoder.specs.Encoder.{EncoderView, encoderView, createRules, newView}
 use Rattle.encoder.specs.Calls.{HandsBack, Told, ifSome, onto, refuses, refuses-14, toldEncode, wrote}
 use Rattle.encoder.specs.declared.QoaEncoder.{QoaEncoder}
 use Rattle.encoder.specs.declared.EncodedBytes.{EncodedBytes}
 use Rattle.encoder.specs.declared.EncodeAnswer.{EncodeAnswer}
-use Rattle.oneshot.specs.OneShot.{before, bytesBefore, fileBytes, fileNeed, framesOf, shotRules, stopIn}
-use Rattle.oneshot.specs.declared.need.NeedAnswer as N
-
--- how many bytes a caller must lend
-abbrev pub toldNeed : N.NeedAnswer → Answer ℕ
-toldNeed (N.the-variants.Bytes n) = good n
-toldNeed (N.the-variants.Refused r) = refused (numberOf r)
+use Rattle.oneshot.specs.OneShot.{stateBefore, bytesBefore, fileBytes, fileNeed, framesOf, shotRules, stopIn}
 
 -- the refusals, then 14, which leaves the file header and the frames before the refused one, then the whole file
-unfoldable pub shotTold : List Rule → View → List ℤ → Told
+unfoldable pub shotTold : List Rule → EncoderView → List ℤ → Told
 shotTold rules v samples =
     ifSome (firstOf rules) refuses
     (ifSome (stopIn v samples (framesOf v)) (λ s. refuses-14 (length (bytesBefore v samples (s .frame))) (s .channel))
     (wrote (fileNeed v)))
 
-unfoldable pub shotMemory : List Rule → View → List ℤ → List ℕ → List ℕ
+unfoldable pub shotMemory : List Rule → EncoderView → List ℤ → List ℕ → List ℕ
 shotMemory rules v samples out =
     ifSome (firstOf rules) (λ n. out)
     (ifSome (stopIn v samples (framesOf v)) (λ s. onto out (bytesBefore v samples (s .frame)))
     (onto out (fileBytes v samples)))
 
 pub record ShotDone (e : QoaEncoder) (samples : List ℤ) (out : List ℕ) (r : EncodedBytes) (left : List ℕ) : Type 0 where
-  pub told : toldEncode (r .answer) ≡ shotTold (shotRules (view e) samples (length out)) (view e) samples
-  pub memory : left ≡ shotMemory (shotRules (view e) samples (length out)) (view e) samples out
-  pub back : HandsBack (shotTold (shotRules (view e) samples (length out)) (view e) samples) e (before (view e) samples (framesOf (view e))) (r .state)
+  pub told : toldEncode (r .answer) ≡ shotTold (shotRules (encoderView e) samples (length out)) (encoderView e) samples
+  pub memory : left ≡ shotMemory (shotRules (encoderView e) samples (length out)) (encoderView e) samples out
+  pub back : HandsBack (shotTold (shotRules (encoderView e) samples (length out)) (encoderView e) samples) e (stateBefore (encoderView e) samples (framesOf (encoderView e))) (r .state)
 
 -- from a new encoder: 11, 12, 13, then 13, 7, 14
 abbrev pub allRules : ℕ → ℕ → ℕ → List ℤ → ℕ → List Rule

@@ -3,17 +3,16 @@ ghost use mathlib.Core.Path.{_≡_};
 ghost use mathlib.Core.Option.{none};
 ghost use Prim.Native.Nat.{_+_, _-_, _*_, _≤_, _<_, _^_, min};
 ghost use lib.ListN.{length};
-ghost use Rattle.word.specs.Rules.{firstOf};
-ghost use Rattle.header.specs.Format.{frameLength, maxChannels};
-ghost use Rattle.header.specs.Refusals.{toldChecked};
-ghost use Rattle.encoder.specs.Encoder.{view};
+ghost use Rattle.refusal.specs.Rules.{firstOf};
+ghost use Rattle.format.specs.Format.{frameLength, maxChannels};
+ghost use Rattle.refusal.specs.Refusals.{toldChecked};
+ghost use Rattle.encoder.specs.Encoder.{encoderView};
 ghost use Rattle.encoder.specs.Frame.{afterFrame, frameBytes, perChannel};
 ghost use Rattle.body.specs.Laid.{overlaid};
 ghost use Rattle.encoder.specs.Parts.{FrameFits};
 ghost use Rattle.oneshot.specs.OneShot.{chunk, shotRules};
 ghost use Rattle.oneshot.specs.Parts.{framePlace};
 ghost use Rattle.oneshot.specs.Shots.{AllDone, ShotDone};
-use encoder::CreateAnswer;
 use encoder::EncodeAnswer;
 use encoder::EncodedBytes;
 use encoder::QoaEncoder;
@@ -23,22 +22,21 @@ use encoder::frame::put_frame;
 use encoder::head::put_head;
 use encoder::rules::first_wide;
 use encoder::rules::is_good_encoder;
-use header::frame::QOA_FRAME_LEN;
-use header::frame::QOA_HEADER_SIZE;
-use header::frame::frame_length;
-use header::refusal::Checked;
-use header::refusal::Refusal;
+use format::frame::QOA_FRAME_LEN;
+use format::frame::QOA_HEADER_SIZE;
+use format::frame::frame_length;
 use need::file_need;
 use need::frames_in;
+use refusal::Checked;
+use refusal::Refusal;
 
 pub mod need;
 
-pub use need::NeedAnswer;
 pub use need::encode_need;
 
 // The refusals of one shot but for 14, in document 01's order.
 fn check_shot(e: QoaEncoder, samples: &[i16], room: usize) -> Checked
-    ensures { λ r. ⌜ toldChecked r ≡ firstOf (shotRules (view e) (now (samples .entry)) room) ⌝ }
+    ensures { λ r. ⌜ toldChecked r ≡ firstOf (shotRules (encoderView e) (now (samples .entry)) room) ⌝ }
 {
     if !is_good_encoder(e) {
         return Checked::Refused(Refusal::BadState);
@@ -77,10 +75,10 @@ fn frame_place(channels: usize, f: usize) -> usize
 // Stores frame `f` of a file.
 fn put_chunk(e: QoaEncoder, samples: &[i16], f: usize, out: &mut [u8]) -> QoaEncoder
     requires small { ⌜ (f < 2 ^ 32) × (5120 * e .channels * f ≤ length (now samples)) ⌝ }
-    requires fits { ⌜ FrameFits (view e) (chunk (e .channels) (now samples) f) ⌝ }
-    requires room { ⌜ framePlace (e .channels) f + frameLength (e .channels) (perChannel (view e) (chunk (e .channels) (now samples) f)) ≤ length (now out) ⌝ }
-    ensures state { λ r. ⌜ view r ≡ afterFrame (view e) (chunk (e .channels) (now (samples .entry)) f) ⌝ }
-    ensures bytes { λ r. ⌜ now (out .exit) ≡ overlaid (now (out .entry)) (framePlace (e .channels) f) (frameBytes (view e) (chunk (e .channels) (now (samples .entry)) f)) ⌝ }
+    requires fits { ⌜ FrameFits (encoderView e) (chunk (e .channels) (now samples) f) ⌝ }
+    requires room { ⌜ framePlace (e .channels) f + frameLength (e .channels) (perChannel (encoderView e) (chunk (e .channels) (now samples) f)) ≤ length (now out) ⌝ }
+    ensures state { λ r. ⌜ encoderView r ≡ afterFrame (encoderView e) (chunk (e .channels) (now (samples .entry)) f) ⌝ }
+    ensures bytes { λ r. ⌜ now (out .exit) ≡ overlaid (now (out .entry)) (framePlace (e .channels) f) (frameBytes (encoderView e) (chunk (e .channels) (now (samples .entry)) f)) ⌝ }
 {
     let channels = e.channels as usize;
     let most = QOA_FRAME_LEN * channels;
@@ -92,7 +90,7 @@ fn put_chunk(e: QoaEncoder, samples: &[i16], f: usize, out: &mut [u8]) -> QoaEnc
 
 // A file that nothing but 14 refuses: the file header, then frame after frame.
 fn encode_frames(e: QoaEncoder, samples: &[i16], out: &mut [u8]) -> EncodedBytes
-    requires { ⌜ firstOf (shotRules (view e) (now samples) (length (now out))) ≡ none ⌝ }
+    requires { ⌜ firstOf (shotRules (encoderView e) (now samples) (length (now out))) ≡ none ⌝ }
     ensures { λ r. ⌜ ShotDone e (now (samples .entry)) (now (out .entry)) r (now (out .exit)) ⌝ }
 {
     put_head(e.total, out);
@@ -146,8 +144,8 @@ pub fn encode_all(
     let state = created.state;
     let answer = created.answer;
     match answer {
-        CreateAnswer::Refused(r) => EncodeAnswer::Refused(r),
-        CreateAnswer::Created => {
+        Checked::Refused(r) => EncodeAnswer::Refused(r),
+        Checked::Passed => {
             let done = encode(state, samples, out);
             done.answer
         }

@@ -1,22 +1,17 @@
 // How many bytes a whole file takes.
 ghost use mathlib.Core.Path.{_≡_};
 ghost use Prim.Native.Nat.{_≤_, _<_, _^_};
-ghost use Rattle.word.specs.Rules.{after, good};
-ghost use Rattle.header.specs.Format.{maxChannels};
+ghost use Rattle.refusal.specs.Rules.{after, good};
+ghost use Rattle.format.specs.Format.{maxChannels};
 ghost use Rattle.oneshot.specs.OneShot.{framesIn, needOf, needRules};
-ghost use Rattle.oneshot.specs.Shots.{toldNeed};
-use header::frame::QOA_FRAME_LEN;
-use header::frame::QOA_HEADER_SIZE;
-use header::frame::QOA_MAX_CHANNELS;
-use header::frame::slices_of;
-use header::frame::state_end;
-use header::refusal::Refusal;
-
-// How many bytes a caller must lend.
-pub enum NeedAnswer {
-    Bytes(usize),
-    Refused(Refusal),
-}
+ghost use Rattle.refusal.specs.Refusals.{toldCount};
+use format::frame::QOA_FRAME_LEN;
+use format::frame::QOA_HEADER_SIZE;
+use format::frame::QOA_MAX_CHANNELS;
+use format::frame::slices_of;
+use format::frame::state_end;
+use refusal::CountAnswer;
+use refusal::Refusal;
 
 // How many frames so many samples per channel take.
 pub fn frames_in(total: usize) -> usize
@@ -35,17 +30,17 @@ pub fn file_need(channels: usize, total: usize) -> usize
 }
 
 // How many bytes a caller must lend for a whole file: 11, 13.
-pub fn encode_need(channels: u8, total: u32) -> NeedAnswer
-    ensures { λ r. ⌜ toldNeed r ≡ after (needRules channels total) (good (needOf channels total)) ⌝ }
+pub fn encode_need(channels: u8, total: u32) -> CountAnswer
+    ensures { λ r. ⌜ toldCount r ≡ after (needRules channels total) (good (needOf channels total)) ⌝ }
 {
     if channels == 0 {
-        return NeedAnswer::Refused(Refusal::InvalidChannels);
+        return CountAnswer::Refused(Refusal::InvalidChannels);
     }
     if QOA_MAX_CHANNELS < channels as usize {
-        return NeedAnswer::Refused(Refusal::InvalidChannels);
+        return CountAnswer::Refused(Refusal::InvalidChannels);
     }
     if total == 0 {
-        return NeedAnswer::Refused(Refusal::InvalidSamples);
+        return CountAnswer::Refused(Refusal::InvalidSamples);
     }
-    NeedAnswer::Bytes(file_need(channels as usize, total as usize))
+    CountAnswer::Count(file_need(channels as usize, total as usize))
 }

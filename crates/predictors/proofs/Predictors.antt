@@ -23,10 +23,12 @@ use Rattle.word.specs.Word.{field}
 use Rattle.word.proofs.Tables.{length-table, table-ext, table-of}
 use Rattle.word.proofs.BytesLaws.{be-ext, be-lt-bits, length-put, put-at}
 use Rattle.word.proofs.Writes.{written-other}
-use Rattle.lms.specs.Predictor.{at, HistoryFits, WeightsWithin}
+use Rattle.lms.specs.Predictor.{at}
 use Rattle.lms.specs.declared.QoaLms.{QoaLms}
-use Rattle.header.specs.Predictor.{signedAt, lmsAt, fourOf, fourWord, putLms}
+use Rattle.format.specs.Predictor.{signedAt, lmsAt, fourWord}
 use Rattle.word.proofs.Fields.{AreBytes, Stored, at-each, be-field, joined, stored-field}
+use Rattle.lms.specs.Parts.{HistoryFits, WeightsWithin}
+use Rattle.format.specs.Parts.{fourOf, putLms}
 
 -- ---- where a state is read: it is that of its 16 bytes
 

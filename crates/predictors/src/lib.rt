@@ -7,10 +7,11 @@ ghost use mir.Val.{toZ};
 ghost use Rattle.word.specs.Word.{field};
 ghost use Rattle.word.specs.Written.{written};
 ghost use Rattle.wrap.specs.Wrap.{low16};
-ghost use Rattle.header.specs.Format.{maxChannels};
-ghost use Rattle.header.specs.Predictor.{fourOf, fourWord, lmsAt, putLms};
-use header::frame::QOA_MAX_CHANNELS;
+ghost use Rattle.format.specs.Format.{maxChannels};
+ghost use Rattle.format.specs.Predictor.{fourWord, lmsAt};
+use format::frame::QOA_MAX_CHANNELS;
 use lms::QoaLms;
+ghost use Rattle.format.specs.Parts.{fourOf, putLms};
 
 // The signed 16-bit number that has so many bits below it.
 fn number_in(word: u64, below: u32) -> i32

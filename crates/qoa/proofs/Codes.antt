@@ -1,10 +1,10 @@
 -- The code of a part of what a file tells. Assumes nothing.
 use Prim.Native.Nat.{ℕ}
 use mathlib.Core.Path.{_≡_}
-use Rattle.word.specs.Rules.{Answer, good, refused, _then_}
-use Rattle.format.specs.Reader.{Audio}
+use Rattle.refusal.specs.Rules.{Answer, good, refused, _then_}
+use Rattle.file.specs.Whole.{Audio}
 use Rattle.whole.specs.Told.{summaryIn, summaryOf}
-use Rattle.whole.specs.declared.answer.Summary.{Summary}
+use Rattle.refusal.specs.declared.Summary.{Summary}
 use Rattle.codes.specs.Codes.{coded}
 
 -- a part of what a file's summary tells is that part of its audio

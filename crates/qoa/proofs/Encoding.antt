@@ -2,7 +2,7 @@
 use Prim.Native.Nat.{ℕ, _<_, _^_}
 use mathlib.Core.List.{List}
 use lib.IntN.{ℤ}
-use Rattle.word.proofs.Rules.{none-fires, quiet, quiet-parts}
+use Rattle.refusal.proofs.Rules.{none-fires, quiet, quiet-parts}
 use Rattle.encoder.specs.Encoder.{createRules, newView}
 use Rattle.oneshot.specs.OneShot.{shotRules}
 use Rattle.oneshot.specs.Parts.{Small}

@@ -4,19 +4,19 @@ use mathlib.Core.Path.{_≡_, sym, ap, _∙_}
 use mathlib.Core.List.{List, [], _∷_}
 use native.Mathlib.Omega.{arith}
 use lib.ListN.{length, length-append}
-use Rattle.word.specs.Rules.{good}
-use Rattle.word.proofs.Rules.{good-same, then-good}
-use Rattle.header.specs.Format.{mostBytes}
-use Rattle.header.specs.Header.{headerAt}
-use Rattle.header.specs.Part.{lengthOf}
-use Rattle.header.specs.Grammar.{Each, IsFrame, joined}
-use Rattle.format.specs.Reader.{Audio, audioIn, decode}
-use Rattle.format.specs.Streaming.{streamed}
-use Rattle.format.proofs.Decoded.{accepted, holds}
-use Rattle.format.proofs.Needs.{file-need, need-small}
-use Rattle.format.proofs.Streamed.{streamed-is}
+use Rattle.refusal.specs.Rules.{good}
+use Rattle.refusal.proofs.Rules.{good-same, then-good}
+use Rattle.format.specs.Format.{mostBytes}
+use Rattle.format.specs.Header.{headerAt}
+use Rattle.format.specs.Part.{lengthOf}
+use Rattle.format.specs.Grammar.{Each, IsFrame, joined}
+use Rattle.file.specs.Whole.{Audio, audioIn, decode}
+use Rattle.file.specs.Streaming.{streamed}
+use Rattle.file.proofs.Decoded.{accepted, holds}
+use Rattle.file.proofs.Needs.{file-need, need-small}
+use Rattle.file.proofs.Streamed.{streamed-is}
 use Rattle.whole.specs.Told.{countIn, summaryIn, summaryOf}
-use Rattle.whole.specs.declared.answer.Summary.{Summary}
+use Rattle.refusal.specs.declared.Summary.{Summary}
 
 -- no more samples than there is room for
 pub decoded-fits : (room : ℕ) (b : List ℕ) (s : Summary) → summaryIn (decode room b) ≡ good s → s .count ≤ room

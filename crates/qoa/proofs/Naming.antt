@@ -7,16 +7,16 @@ use mathlib.Core.Option.{Option, none, some, Option·none-ne-some}
 use native.Mathlib.Omega.{arith}
 use lib.IntN.{ℤ}
 use lib.ListN.{length}
-use Rattle.word.specs.Rules.{Rule, _gives_, firstOf}
-use Rattle.word.proofs.Rules.{none-fires, quiet, quiet-parts}
+use Rattle.refusal.specs.Rules.{Rule, _gives_, firstOf}
+use Rattle.refusal.proofs.Rules.{none-fires, quiet, quiet-parts}
 use Rattle.lms.specs.declared.QoaLms.{QoaLms}
-use Rattle.header.specs.Format.{maxChannels}
-use Rattle.header.specs.Predictor.{lmsOf}
-use Rattle.state.specs.States.{allShort}
+use Rattle.format.specs.Format.{maxChannels}
+use Rattle.format.specs.Predictor.{lmsOf}
+use Rattle.lms.specs.Predictor.{allShort}
 use Rattle.encoder.specs.Calls.{Told, ifSome, refuses, refuses-14, wrote}
-use Rattle.encoder.specs.Encoder.{View, createRules, newView}
+use Rattle.encoder.specs.Encoder.{EncoderView, createRules, newView}
 use Rattle.encoder.specs.Frame.{firstWide, orThen}
-use Rattle.oneshot.specs.OneShot.{Stop, before, bytesBefore, fileNeed, framesOf, orStop, shotRules, stopAt, stopIn}
+use Rattle.oneshot.specs.OneShot.{Stop, stateBefore, bytesBefore, fileNeed, framesOf, orStop, shotRules, stopAt, stopIn}
 use Rattle.oneshot.specs.Shots.{allRules, shotTold}
 use Rattle.oneshot.proofs.Ends.{shot-fits}
 use Rattle.codes.specs.Codes.{codedEncode}
@@ -53,17 +53,17 @@ stop-or c f (some t) w s sooner wide e = let same : t ≡ s = cc in subst (λ (x
 stop-or c f none none s sooner wide e = absurd (Option·none-ne-some s e)
 stop-or c f none (some j) s sooner wide e = let same : record { frame = f; channel = j } ≡ s = cc in subst (λ (x : Stop). x .channel < c) same (wide j refl)
 
-stop-channel : (v : View) (samples : List ℤ) (n : ℕ) (s : Stop) → stopIn v samples n ≡ some s → s .channel < v .channels
+stop-channel : (v : EncoderView) (samples : List ℤ) (n : ℕ) (s : Stop) → stopIn v samples n ≡ some s → s .channel < v .channels
 unfolding stopIn
 stop-channel v samples zero s e = absurd (Option·none-ne-some s e)
 stop-channel v samples (suc f) s e =
-    stop-or (v .channels) f (stopIn v samples f) (firstWide (v .channels) (before v samples f .lms)) s (λ t p. stop-channel v samples f t p)
-    (λ j p. wide-within (v .channels) (before v samples f .lms) j p) e
+    stop-or (v .channels) f (stopIn v samples f) (firstWide (v .channels) (stateBefore v samples f .lms)) s (λ t p. stop-channel v samples f t p)
+    (λ j p. wide-within (v .channels) (stateBefore v samples f .lms) j p) e
 
 -- ---- the call
 
 module _ (c rate total : ℕ) (samples : List ℤ) (room : ℕ) where
-  abbrev new : View
+  abbrev new : EncoderView
   new = newView c rate total
 
   abbrev rules : List Rule

@@ -6,16 +6,16 @@ use mathlib.Core.List.{List, [], _∷_, _++_}
 use lib.Dec.{T, lit<, ltb}
 use lib.Ieee.Fits.{and-l, and-r}
 use lib.ListN.{drop, length, take}
-use Rattle.word.specs.Rules.{Answer, Rule, _gives_, after, firstOf, good, refused, _then_}
-use Rattle.header.specs.FileHeader.{fileRules, isFixed, totalOf}
-use Rattle.header.specs.Format.{stateEnd}
-use Rattle.header.specs.Header.{goodHeader, headerAt, headerRules, leftAt}
-use Rattle.header.specs.Part.{cutRules, lengthOf, partLength}
-use Rattle.header.specs.declared.frame.FrameHeader.{FrameHeader}
+use Rattle.refusal.specs.Rules.{Answer, Rule, _gives_, after, firstOf, good, refused, _then_}
+use Rattle.format.specs.FileHeader.{fileRules, isFixed, totalOf}
+use Rattle.format.specs.Format.{stateEnd}
+use Rattle.format.specs.Header.{goodHeader, headerAt, headerRules, leftAt}
+use Rattle.format.specs.Part.{cutRules, lengthOf, partLength}
+use Rattle.format.specs.declared.frame.FrameHeader.{FrameHeader}
 use Rattle.state.specs.Opening.{firstRules, openRules}
-use Rattle.format.specs.Reader.{audioIn, body, bodyFor, cutOf, decode, frameRules, inOrder, otherRules, sameRules, wholeFile, withFirst}
-use Rattle.format.specs.Streaming.{freeFrames, freeRules, samplesIn, streamed}
-use Rattle.format.specs.Walk.{Reader, Walk, afterFrame, ends, frameAt, step, walkBy, walkOf}
+use Rattle.file.specs.Whole.{audioIn, body, bodyFor, cutOf, decode, frameRules, inOrder, otherRules, sameRules, wholeFile, withFirst}
+use Rattle.file.specs.Streaming.{freeFrames, freeRules, samplesIn, streamed}
+use Rattle.file.specs.Walk.{WalkRules, Walk, pastFrame, ends, frameAt, step, walkBy, walkOf}
 use Rattle.oneshot.specs.OneShot.{needRules}
 use Rattle.codes.specs.Codes.{coded}
 use Rattle.qoa.specs.Coded.{openedFacts}
@@ -76,7 +76,7 @@ frame-numbers fixed c r h left =
 
 -- ---- a walk
 
-module _ (R : Reader) (frames : (b : List ℕ) → Numbers (R .frame b)) (tails : (n : ℕ) → Numbers (R .tail n)) where
+module _ (R : WalkRules) (frames : (b : List ℕ) → Numbers (R .frame b)) (tails : (n : ℕ) → Numbers (R .tail n)) where
   named-ends : (b : List ℕ) → Named (ends R b)
   named-ends b = named-after (R .tail (length b)) _ (tails (length b)) tt
 
@@ -87,7 +87,7 @@ module _ (R : Reader) (frames : (b : List ℕ) → Numbers (R .frame b)) (tails 
   named-walk-by : (fuel : ℕ) (b : List ℕ) → Named (walkBy R fuel b)
   unfolding walkBy
   named-walk-by zero b = named-ends b
-  named-walk-by (suc fuel) b = by-size (ltb (length b) 8) b (walkBy R fuel (afterFrame b)) (named-walk-by fuel (afterFrame b))
+  named-walk-by (suc fuel) b = by-size (ltb (length b) 8) b (walkBy R fuel (pastFrame b)) (named-walk-by fuel (pastFrame b))
 
   named-walk : (b : List ℕ) → Named (walkOf R b)
   unfolding walkOf
@@ -100,7 +100,7 @@ unfolding bodyFor
 named-body fixed c r b =
     named-after _ _ (low tt, tt)
     (named-after _ _ (frame-numbers fixed c r (headerAt b 0) (length b))
-    (named-walk (wholeFile fixed c r) (λ x. frame-numbers fixed c r (headerAt x 0) (length x)) (λ n. (low tt, tt)) (afterFrame b)))
+    (named-walk (wholeFile fixed c r) (λ x. frame-numbers fixed c r (headerAt x 0) (length x)) (λ n. (low tt, tt)) (pastFrame b)))
 
 named-cut : (b : List ℕ) → Named (cutOf b)
 unfolding cutOf

@@ -9,10 +9,10 @@ use lib.Ieee.{Float, nan, inf, fin, Format, binary64, div, down, emax, low, odd,
 use lib.Ieee.Back.{negative-back}
 use lib.Ieee.Fits.{round-is}
 use lib.IntN.{pos, negℤ}
-use Rattle.word.specs.Rules.{Answer, Rule, _gives_, after, firstOf, good, refused, _then_}
-use Rattle.header.specs.Facts.{factsOf, noLength, seconds}
-use Rattle.header.specs.FileHeader.{isFixed}
-use Rattle.header.specs.declared.facts.Facts.{Facts}
+use Rattle.refusal.specs.Rules.{Answer, Rule, _gives_, after, firstOf, good, refused, _then_}
+use Rattle.format.specs.Facts.{factsOf, noLength, seconds}
+use Rattle.format.specs.FileHeader.{isFixed}
+use Rattle.format.specs.declared.facts.Facts.{Facts}
 use Rattle.state.specs.Facts.{factsFor}
 use Rattle.state.specs.Opening.{openRules, openedAt}
 use Rattle.state.specs.declared.FrameFacts.{FrameFacts}

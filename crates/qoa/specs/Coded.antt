@@ -2,16 +2,16 @@
 use Prim.Native.Nat.{ℕ}
 use mathlib.Core.List.{List}
 use lib.ListN.{length}
-use Rattle.word.specs.Rules.{Answer, after, good, _then_}
-use Rattle.header.specs.declared.facts.Facts.{Facts}
-use Rattle.format.specs.Reader.{Audio}
+use Rattle.refusal.specs.Rules.{Answer, after, good, _then_}
+use Rattle.format.specs.declared.facts.Facts.{Facts}
+use Rattle.file.specs.Whole.{Audio}
 use Rattle.state.specs.Opening.{openRules, openedAt}
 use Rattle.state.specs.Facts.{factsFor}
 
 -- ---- of a file that decodes: how many samples over all channels, its channels, its rate
 
-abbrev pub samplesIn : Answer Audio → Answer ℕ
-samplesIn answer = answer then λ a. good (length (a .samples))
+abbrev pub sampleCount : Answer Audio → Answer ℕ
+sampleCount answer = answer then λ a. good (length (a .samples))
 
 abbrev pub channelsIn : Answer Audio → Answer ℕ
 channelsIn answer = answer then λ a. good (a .channels)

@@ -2,21 +2,21 @@
 pub mod linked;
 
 // Opening a decoder: the first refusal, or a state by value at the start of the file.
-pub use state::OpenAnswer;
+pub use refusal::Checked;
 pub use state::OpenedDecoder;
 pub use state::ProcessingMode;
 pub use state::QoaDecoder;
 pub use state::open_decoder;
 
 // A decoder's facts: total, channels, rate, length in seconds.
-pub use header::Facts;
+pub use format::Facts;
 pub use state::FactsAnswer;
 pub use state::facts_given;
 
 // Samples of the current frame into a lent buffer, as many as there are or fit.
 pub use decoder::DecodedInto;
-pub use decoder::IntoAnswer;
 pub use decoder::decode_into;
+pub use refusal::CountAnswer;
 
 // On to the next frame, over what remains of this one.
 pub use decoder::FrameAnswer;
@@ -30,23 +30,19 @@ pub use decoder::QoaItem;
 pub use decoder::next_item;
 
 // A whole file into lent samples, and what it needs.
-pub use whole::DecodeAnswer;
-pub use whole::NeedAnswer;
-pub use whole::Summary;
+pub use refusal::Summary;
+pub use refusal::SummaryAnswer;
 pub use whole::decode_all;
 pub use whole::decode_need;
 
 // Streaming frames into lent samples, without a state.
-pub use whole::FramesAnswer;
 pub use whole::decode_frames;
 
 // The frame part: its length, and the caller's own bytes.
-pub use header::PartAnswer;
-pub use header::frame_part;
-pub use header::part_length;
+pub use format::frame_part;
+pub use format::part_length;
 
 // A new encoder, a state by value.
-pub use encoder::CreateAnswer;
 pub use encoder::CreatedEncoder;
 pub use encoder::QoaEncoder;
 pub use encoder::new_encoder;
@@ -60,14 +56,13 @@ pub use encoder::EncodedBytes;
 pub use encoder::encode_frame;
 
 // A whole file into lent bytes, from an encoder or from a new one, and what it needs.
-pub use oneshot::NeedAnswer as BytesAnswer;
 pub use oneshot::encode;
 pub use oneshot::encode_all;
 pub use oneshot::encode_need;
 
 // Why a call refuses, and the refusal's number.
-pub use header::Refusal;
-pub use header::number;
+pub use refusal::Refusal;
+pub use refusal::number;
 
 // The reader: the caller's bytes and a place in them, and the calls above over both.
 pub use reader::DecodedAt;
@@ -78,10 +73,10 @@ pub use reader::ReadInto;
 pub use reader::ReadItem;
 pub use reader::Reader;
 pub use reader::decode_from;
-pub use reader::decode_into as read_into;
-pub use reader::frame_part as read_part;
-pub use reader::moved as moved_reader;
-pub use reader::new as new_reader;
-pub use reader::next_frame as read_frame;
-pub use reader::next_item as read_item;
-pub use reader::open as open_reader;
+pub use reader::moved_reader;
+pub use reader::new_reader;
+pub use reader::open_reader;
+pub use reader::read_frame;
+pub use reader::read_into;
+pub use reader::read_item;
+pub use reader::read_part;

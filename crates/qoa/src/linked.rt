@@ -2,48 +2,45 @@
 // the refusal.
 ghost use mathlib.Core.Path.{_≡_};
 ghost use lib.ListN.{length};
-ghost use Rattle.word.specs.Rules.{after, good, _then_};
-ghost use Rattle.header.specs.Part.{partLength};
+ghost use Rattle.refusal.specs.Rules.{after, good, _then_};
+ghost use Rattle.format.specs.Part.{partLength};
 ghost use Rattle.state.specs.Facts.{toldFacts};
-ghost use Rattle.format.specs.Reader.{audioIn, decode};
-ghost use Rattle.format.specs.Streaming.{streamed};
+ghost use Rattle.file.specs.Whole.{audioIn, decode};
+ghost use Rattle.file.specs.Streaming.{streamed};
 ghost use Rattle.whole.specs.Told.{countIn, heardIn, kept};
 ghost use Rattle.encoder.specs.Encoder.{newView};
 ghost use Rattle.oneshot.specs.OneShot.{needOf, needRules};
 ghost use Rattle.oneshot.specs.Shots.{allRules, shotMemory, shotTold};
 ghost use Rattle.codes.specs.Codes.{coded, codedEncode, codedSeconds};
-ghost use Rattle.qoa.specs.Coded.{channelsIn, openedFacts, rateIn, samplesIn};
+ghost use Rattle.qoa.specs.Coded.{channelsIn, openedFacts, rateIn, sampleCount};
 use codes::count;
 use codes::encoded;
 use codes::minus;
-use header::part::PartAnswer;
-use oneshot::need::NeedAnswer as BytesAnswer;
+use refusal::Checked;
+use refusal::CountAnswer;
+use refusal::SummaryAnswer;
 use state::FactsAnswer;
-use state::OpenAnswer;
-use whole::answer::DecodeAnswer;
-use whole::answer::FramesAnswer;
-use whole::answer::NeedAnswer;
 
 // A whole file into lent samples: how many. Nothing past them is touched, and nothing at all on a refusal.
 #[no_mangle]
 pub extern "C" fn qoa_decode_all(bytes: &[u8], out: &mut [i16]) -> i64
-    ensures answer { λ r. ⌜ r ≡ coded (samplesIn (decode (length (now (out .entry))) (now (bytes .entry)))) ⌝ }
+    ensures answer { λ r. ⌜ r ≡ coded (sampleCount (decode (length (now (out .entry))) (now (bytes .entry)))) ⌝ }
     ensures samples { λ r. ⌜ now (out .exit) ≡ kept (heardIn (decode (length (now (out .entry))) (now (bytes .entry)))) (now (out .entry)) ⌝ }
 {
     match whole::decode_all(bytes, out) {
-        DecodeAnswer::Refused(r) => minus(r),
-        DecodeAnswer::Decoded(summary) => count(summary.count),
+        SummaryAnswer::Refused(why) => minus(why),
+        SummaryAnswer::Known(summary) => count(summary.count),
     }
 }
 
 // How many samples a whole file has, over all channels.
 #[no_mangle]
 pub extern "C" fn qoa_decode_need(bytes: &[u8]) -> i64
-    ensures { λ r. ⌜ r ≡ coded (samplesIn (audioIn (now (bytes .entry)))) ⌝ }
+    ensures { λ r. ⌜ r ≡ coded (sampleCount (audioIn (now (bytes .entry)))) ⌝ }
 {
     match whole::decode_need(bytes) {
-        NeedAnswer::Refused(r) => minus(r),
-        NeedAnswer::Need(summary) => count(summary.count),
+        SummaryAnswer::Refused(r) => minus(r),
+        SummaryAnswer::Known(summary) => count(summary.count),
     }
 }
 
@@ -53,8 +50,8 @@ pub extern "C" fn qoa_channels(bytes: &[u8]) -> i64
     ensures { λ r. ⌜ r ≡ coded (channelsIn (audioIn (now (bytes .entry)))) ⌝ }
 {
     match whole::decode_need(bytes) {
-        NeedAnswer::Refused(r) => minus(r),
-        NeedAnswer::Need(summary) => summary.channels as i64,
+        SummaryAnswer::Refused(r) => minus(r),
+        SummaryAnswer::Known(summary) => summary.channels as i64,
     }
 }
 
@@ -64,8 +61,8 @@ pub extern "C" fn qoa_rate(bytes: &[u8]) -> i64
     ensures { λ r. ⌜ r ≡ coded (rateIn (audioIn (now (bytes .entry)))) ⌝ }
 {
     match whole::decode_need(bytes) {
-        NeedAnswer::Refused(r) => minus(r),
-        NeedAnswer::Need(summary) => summary.rate as i64,
+        SummaryAnswer::Refused(r) => minus(r),
+        SummaryAnswer::Known(summary) => summary.rate as i64,
     }
 }
 
@@ -76,8 +73,8 @@ pub extern "C" fn qoa_decode_frames(bytes: &[u8], out: &mut [i16]) -> i64
     ensures samples { λ r. ⌜ now (out .exit) ≡ kept (streamed (length (now (out .entry))) (now (bytes .entry))) (now (out .entry)) ⌝ }
 {
     match whole::decode_frames(bytes, out) {
-        FramesAnswer::Refused(r) => minus(r),
-        FramesAnswer::Count(n) => count(n),
+        CountAnswer::Refused(r) => minus(r),
+        CountAnswer::Count(n) => count(n),
     }
 }
 
@@ -86,9 +83,9 @@ pub extern "C" fn qoa_decode_frames(bytes: &[u8], out: &mut [i16]) -> i64
 pub extern "C" fn qoa_part_length(bytes: &[u8], at: usize) -> i64
     ensures { λ r. ⌜ r ≡ coded (partLength (now (bytes .entry)) at) ⌝ }
 {
-    match header::part_length(bytes, at) {
-        PartAnswer::Refused(r) => minus(r),
-        PartAnswer::Whole(n) => count(n),
+    match format::part_length(bytes, at) {
+        CountAnswer::Refused(r) => minus(r),
+        CountAnswer::Count(n) => count(n),
     }
 }
 
@@ -99,8 +96,8 @@ fn opened_facts(bytes: &[u8]) -> FactsAnswer
     let opened = state::open_decoder(bytes);
     let answer = opened.answer;
     match answer {
-        OpenAnswer::Refused(r) => FactsAnswer::Refused(r),
-        OpenAnswer::Opened => {
+        Checked::Refused(r) => FactsAnswer::Refused(r),
+        Checked::Passed => {
             let state = opened.state;
             state::facts_given(state, bytes)
         }
@@ -172,7 +169,7 @@ pub extern "C" fn qoa_encode_need(channels: u8, total: u32) -> i64
     ensures { λ r. ⌜ r ≡ coded (after (needRules channels total) (good (needOf channels total))) ⌝ }
 {
     match oneshot::encode_need(channels, total) {
-        BytesAnswer::Refused(r) => minus(r),
-        BytesAnswer::Bytes(n) => count(n),
+        CountAnswer::Refused(r) => minus(r),
+        CountAnswer::Count(n) => count(n),
     }
 }

@@ -1,15 +1,14 @@
 // Reads a QOA file on standard input and writes its samples, 16-bit little-endian, on standard output.
 // A refusal is whole-file decoding's number on standard error, after the samples of the frames before it.
-use decoder::IntoAnswer;
-use header::Checked;
-use header::FileAnswer;
-use header::FrameHeader;
-use header::Refusal;
+use format::FrameHeader;
+use refusal::Checked;
+use refusal::CountAnswer;
+use refusal::Refusal;
 use survey::First;
 use survey::Kind;
 
 // The most bytes of a whole file.
-const MOST_BYTES: u64 = 0xffff_ffff;
+const MOST_BYTES: u64 = format::QOA_MOST_BYTES as u64;
 
 // What is known between two frames: whether to go on, the bytes read, the mode, and the first frame's channels and rate,
 // 0 before it.
@@ -68,9 +67,9 @@ fn refuse(refusal: Refusal, read: u64, buffer: &mut [u8]) -> Run {
         return stopped();
     }
     if MOST_BYTES < length.all {
-        say_number(header::number(Refusal::InputTooLong));
+        say_number(refusal::number(Refusal::InputTooLong));
     } else {
-        say_number(header::number(refusal));
+        say_number(refusal::number(refusal));
     }
     stopped()
 }
@@ -92,9 +91,9 @@ fn begin(n: usize, buffer: &mut [u8]) -> Run {
     if buffer.len() < n {
         return stopped();
     }
-    match header::file_header(&buffer[0..n]) {
-        FileAnswer::Refused(refusal) => refuse(refusal, n as u64, buffer),
-        FileAnswer::Total(total) => Run {
+    match format::file_header(&buffer[0..n]) {
+        CountAnswer::Refused(refusal) => refuse(refusal, n as u64, buffer),
+        CountAnswer::Count(total) => Run {
             going: true,
             read: 8,
             fixed: total != 0,
@@ -129,10 +128,10 @@ fn write_block(block: &[i16], n: usize, bytes: &mut [u8]) -> bool {
     stdio::write_out(&bytes[0..n * 2])
 }
 
-fn count_of(answer: IntoAnswer) -> usize {
+fn count_of(answer: CountAnswer) -> usize {
     match answer {
-        IntoAnswer::Count(n) => n,
-        IntoAnswer::Refused(_) => 0,
+        CountAnswer::Count(n) => n,
+        CountAnswer::Refused(_) => 0,
     }
 }
 
@@ -166,7 +165,7 @@ fn rest(
     block: &mut [i16],
     bytes: &mut [u8],
 ) -> Run {
-    let start = header::state_end(h.channels as usize);
+    let start = format::state_end(h.channels as usize);
     if buffer.len() < size {
         return stopped();
     }
@@ -208,7 +207,7 @@ fn body(
     block: &mut [i16],
     bytes: &mut [u8],
 ) -> Run {
-    let size = header::frame_length(h.channels as usize, h.samples as usize);
+    let size = format::frame_length(h.channels as usize, h.samples as usize);
     if buffer.len() < size {
         stdio::say(b"frame too large\n");
         return stopped();
@@ -220,7 +219,7 @@ fn body(
         return stopped();
     }
     let read = run.read + part as u64;
-    if part < header::state_end(h.channels as usize) {
+    if part < format::state_end(h.channels as usize) {
         return refuse(Refusal::Truncated, read, buffer);
     }
     if MOST_BYTES - run.read < size as u64 {
@@ -232,11 +231,11 @@ fn body(
 // How much of the frame the checks may take for there: in fixed mode the predictor state is not read before them.
 fn left_for(run: Run, h: FrameHeader, part: usize) -> usize {
     if !run.fixed {
-        if part < header::state_end(h.channels as usize) {
+        if part < format::state_end(h.channels as usize) {
             return part;
         }
     }
-    header::frame_length(h.channels as usize, h.samples as usize)
+    format::frame_length(h.channels as usize, h.samples as usize)
 }
 
 // The first frame of the file, or this one where there was none.
@@ -257,7 +256,7 @@ fn first_for(run: Run, h: FrameHeader) -> First {
 
 // A frame whose header was read: its predictor state, and the checks. Whole-file decoding's refusals come in its order.
 fn frame(run: Run, h: FrameHeader, buffer: &mut [u8], block: &mut [i16], bytes: &mut [u8]) -> Run {
-    let end = header::state_end(h.channels as usize);
+    let end = format::state_end(h.channels as usize);
     if buffer.len() < end {
         return stopped();
     }
@@ -300,7 +299,7 @@ fn step(run: Run, buffer: &mut [u8], block: &mut [i16], bytes: &mut [u8]) -> Run
     if n < 8 {
         return finish(run, n, buffer);
     }
-    let h = header::read_header(buffer, 0);
+    let h = format::read_header(buffer, 0);
     frame(run, h, buffer, block, bytes)
 }
 

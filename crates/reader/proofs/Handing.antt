@@ -9,20 +9,20 @@ use lib.IntN.{ℤ}
 use lib.ListN.{length}
 use types.Run.{OneOf}
 use denote.Enum.Declared.{tagOf}
-use Rattle.word.specs.Rules.{good, refused, unless, firstOf}
-use Rattle.word.proofs.Rules.{never}
-use Rattle.header.specs.Refusals.{numberOf}
-use Rattle.header.specs.declared.refusal.Refusal.{Refusal}
+use Rattle.refusal.specs.Rules.{good, refused, unless, firstOf}
+use Rattle.refusal.proofs.Rules.{never}
+use Rattle.refusal.specs.Refusals.{numberOf, toldCount}
+use Rattle.refusal.specs.declared.Refusal.{Refusal}
 use Rattle.state.specs.View.{View, view}
 use Rattle.state.specs.declared.QoaDecoder.{QoaDecoder}
 use Rattle.into.specs.Left.{Leaves}
-use Rattle.into.specs.Into.{IntoDone, intoAfter, intoCount, intoRules, toldInto}
+use Rattle.into.specs.Into.{IntoDone, intoAfter, intoCount, intoRules}
 use Rattle.frames.specs.Frames.{Found, NextDone, a-frame, nextAfter, nextFound, nextRules, no-frame, toldFrame}
 use Rattle.decoder.specs.Items.{Item, ItemDone, a-header, a-sample, itemAfter, itemOf, itemRules, no-item, toldItem}
 use Rattle.into.specs.declared.DecodedInto.{DecodedInto}
 use Rattle.frames.specs.declared.NextFrame.{NextFrame}
 use Rattle.decoder.specs.declared.NextItem.{NextItem}
-use Rattle.into.specs.declared.IntoAnswer as I
+use Rattle.refusal.specs.declared.CountAnswer as I
 use Rattle.frames.specs.declared.FrameAnswer as F
 use Rattle.decoder.specs.declared.QoaItem as Q
 use Rattle.frames.proofs.FrameAnswer as F′
@@ -52,14 +52,14 @@ module _ (bs : List ℕ) (at : ℕ) (d : QoaDecoder) (out : List ℤ) (c : Decod
   pub into-kept : (r : Refusal) → c .answer ≡ I.the-variants.Refused r → IntoRead bs at d out at (record { answer = c .answer; state = d }) out'
   into-kept r e = record {
     told = x .told;
-    left = kept at d (intoAfter bs (there at d) (length out)) (intoCount (there at d) (length out)) (firstOf (intoRules bs (there at d) (length out))) (numberOf r) (sym (ap toldInto e) ∙ x .told);
+    left = kept at d (intoAfter bs (there at d) (length out)) (intoCount (there at d) (length out)) (firstOf (intoRules bs (there at d) (length out))) (numberOf r) (sym (ap toldCount e) ∙ x .told);
     stored = x .stored;
   }
 
   pub into-gone : (n : ℕ) → c .answer ≡ I.the-variants.Count n → IntoRead bs at d out (c .state .at) c out'
   into-gone n e = record {
     told = x .told;
-    left = gone at d (intoAfter bs (there at d) (length out)) (intoCount (there at d) (length out)) (firstOf (intoRules bs (there at d) (length out))) n (c .state) (sym (ap toldInto e) ∙ x .told) (x .left);
+    left = gone at d (intoAfter bs (there at d) (length out)) (intoCount (there at d) (length out)) (firstOf (intoRules bs (there at d) (length out))) n (c .state) (sym (ap toldCount e) ∙ x .told) (x .left);
     stored = x .stored;
   }
 

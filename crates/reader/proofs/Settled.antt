@@ -6,26 +6,25 @@ use Prim.Native.Nat.{ℕ}
 use denote.Ref.{RefT, now}
 use lib.IntN.{ℤ}
 use lib.ListN.{length}
-use Rattle.word.specs.Rules.{after, firstOf, good, refused, unless}
-use Rattle.word.proofs.Rules.{never}
-use Rattle.header.specs.Part.{partLength, partOf, toldPart}
-use Rattle.header.specs.Refusals.{numberOf}
-use Rattle.header.specs.declared.refusal.Refusal.{Refusal}
-use Rattle.header.proofs.Told.{told-part}
-use Rattle.state.specs.Opening.{OpenLeaves, openRules, toldOpen}
+use Rattle.refusal.specs.Rules.{after, firstOf, good, refused, unless}
+use Rattle.refusal.proofs.Rules.{never}
+use Rattle.format.specs.Part.{partLength, partOf}
+use Rattle.refusal.specs.Refusals.{numberOf, toldCount, toldChecked}
+use Rattle.refusal.specs.declared.Refusal.{Refusal}
+use Rattle.refusal.proofs.Told.{told-count}
+use Rattle.state.specs.Opening.{OpenLeaves, openRules}
 use Rattle.state.specs.View.{View, view}
 use Rattle.state.specs.declared.QoaDecoder.{QoaDecoder}
 use Rattle.state.proofs.Settled.{open-settled}
-use Rattle.into.specs.Into.{intoAfter, intoCount, intoRules, toldInto}
+use Rattle.into.specs.Into.{intoAfter, intoCount, intoRules}
 use Rattle.frames.specs.Frames.{nextAfter, nextFound, nextRules, toldFrame}
 use Rattle.decoder.specs.Items.{itemAfter, itemOf, itemRules, toldItem}
 use Rattle.into.specs.declared.DecodedInto.{DecodedInto}
 use Rattle.frames.specs.declared.NextFrame.{NextFrame}
 use Rattle.decoder.specs.declared.NextItem.{NextItem}
-use Rattle.into.specs.declared.IntoAnswer as I
+use Rattle.refusal.specs.declared.CountAnswer as I
 use Rattle.frames.specs.declared.FrameAnswer as F
 use Rattle.decoder.specs.declared.QoaItem as Q
-use Rattle.into.proofs.Settled.{told-into}
 use Rattle.frames.proofs.Settled.{told-frame}
 use Rattle.decoder.proofs.Settled.{told-item}
 use Rattle.reader.specs.Read.{FrameRead, Handed, IntoRead, ItemRead, there}
@@ -65,16 +64,16 @@ pub moved-settled : (g : Reader) (at : ℕ) (r s : Reader) → (r .src ≡ g .sr
 moved-settled g at r s p q = same-reader r s (g .src) (p .0) (q .0) (p .1 ∙ sym (q .1))
 
 abbrev PartDone : List ℕ → ℕ → FramePart → Type 0
-PartDone bs at p = (now (p .part) ≡ partOf (partLength bs at) bs at) × (toldPart (p .answer) ≡ partLength bs at)
+PartDone bs at p = (now (p .part) ≡ partOf (partLength bs at) bs at) × (toldCount (p .answer) ≡ partLength bs at)
 
 pub frame-part-settled : (bs : List ℕ) (at : ℕ) (p q : FramePart) → PartDone bs at p → PartDone bs at q → (now (p .part) ≡ now (q .part)) × (p .answer ≡ q .answer)
-frame-part-settled bs at p q x y = (x .0 ∙ sym (y .0), told-part (p .answer) (q .answer) (x .1 ∙ sym (y .1)))
+frame-part-settled bs at p q x y = (x .0 ∙ sym (y .0), told-count (p .answer) (q .answer) (x .1 ∙ sym (y .1)))
 
 abbrev OpenDone : RefT (List ℕ) → OpenedReader → Type 0
 OpenDone src g =
     (g .reader .src ≡ src)
     × (g .reader .at ≡ g .done .state .at)
-    × (toldOpen (g .done .answer) ≡ after (openRules (now src)) (good tt))
+    × (toldChecked (g .done .answer) ≡ firstOf (openRules (now src)))
     × OpenLeaves (firstOf (openRules (now src))) (now src) (g .done .state)
 
 -- the place of a state is in its view
@@ -94,11 +93,11 @@ module _ (bs : List ℕ) (at : ℕ) (d : QoaDecoder) (out : List ℤ) where
       → (r .at ≡ s .at) × (r .done .answer ≡ s .done .answer) × (view (r .done .state) ≡ view (s .done .state)) × (o ≡ p)
   decode-from-settled r s o p x y =
       let one = handed-one (firstOf (intoRules bs (there at d) (length out))) at d (intoAfter bs (there at d) (length out)) (r .at) (s .at) (r .done .state) (s .done .state) (x .left) (y .left) in
-      (one .0, told-into (r .done .answer) (s .done .answer) (x .told ∙ sym (y .told)), one .1, x .stored ∙ sym (y .stored))
+      (one .0, told-count (r .done .answer) (s .done .answer) (x .told ∙ sym (y .told)), one .1, x .stored ∙ sym (y .stored))
 
   pub into-refused : (e : Refusal) (m : ℕ) (r : DecodedInto) (o : List ℤ) → IntoRead bs at d out m r o → r .answer ≡ I.the-variants.Refused e → (m ≡ at) × (r .state ≡ d)
   into-refused e m r o x f =
-      as-given (firstOf (intoRules bs (there at d) (length out))) at d (intoAfter bs (there at d) (length out)) (intoCount (there at d) (length out)) (numberOf e) m (r .state) (sym (ap toldInto f) ∙ x .told) (x .left)
+      as-given (firstOf (intoRules bs (there at d) (length out))) at d (intoAfter bs (there at d) (length out)) (intoCount (there at d) (length out)) (numberOf e) m (r .state) (sym (ap toldCount f) ∙ x .told) (x .left)
 
 pub decode-into-settled : (g : Reader) (d : QoaDecoder) (out : List ℤ) (r s : ReadInto) (o p : List ℤ)
     → (r .reader .src ≡ g .src) × IntoRead (now (g .src)) (g .at) d out (r .reader .at) (r .done) o
@@ -107,7 +106,7 @@ pub decode-into-settled : (g : Reader) (d : QoaDecoder) (out : List ℤ) (r s : 
 decode-into-settled g d out r s o p x y =
     let here = there (g .at) d in
     let one = read-one (firstOf (intoRules (now (g .src)) here (length out))) g d (intoAfter (now (g .src)) here (length out)) (r .reader) (s .reader) (r .done .state) (s .done .state) (x .0) (y .0) (x .1 .left) (y .1 .left) in
-    (one .0, told-into (r .done .answer) (s .done .answer) (x .1 .told ∙ sym (y .1 .told)), one .1, x .1 .stored ∙ sym (y .1 .stored))
+    (one .0, told-count (r .done .answer) (s .done .answer) (x .1 .told ∙ sym (y .1 .told)), one .1, x .1 .stored ∙ sym (y .1 .stored))
 
 -- ---- next_frame
 

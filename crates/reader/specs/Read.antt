@@ -5,16 +5,17 @@ use mathlib.Core.List.{List}
 use mathlib.Core.Option.{Option, none, some}
 use lib.IntN.{ℤ}
 use lib.ListN.{length}
-use Rattle.word.specs.Rules.{good, after, firstOf}
+use Rattle.refusal.specs.Rules.{good, after, firstOf}
 use Rattle.word.specs.Written.{written}
 use Rattle.state.specs.View.{View, view}
 use Rattle.state.specs.declared.QoaDecoder.{QoaDecoder}
-use Rattle.into.specs.Into.{comingAt, intoAfter, intoCount, intoRules, storedUnless, toldInto}
+use Rattle.into.specs.Into.{comingAt, intoAfter, intoCount, intoRules, storedUnless}
 use Rattle.frames.specs.Frames.{nextAfter, nextFound, nextRules, toldFrame}
 use Rattle.decoder.specs.Items.{itemAfter, itemOf, itemRules, toldItem}
 use Rattle.into.specs.declared.DecodedInto.{DecodedInto}
 use Rattle.frames.specs.declared.NextFrame.{NextFrame}
 use Rattle.decoder.specs.declared.NextItem.{NextItem}
+use Rattle.refusal.specs.Refusals.{toldCount}
 
 -- the same state, with its place set
 unfoldable pub placed : ℕ → QoaDecoder → QoaDecoder
@@ -41,7 +42,7 @@ Handed (some n) at d v at' after = (at' ≡ at) × (after ≡ d)
 
 -- what each call promises, of the bytes, the place, the state (and the lent memory): its answer, the place and the state that it hands back (and that memory afterwards)
 pub record IntoRead (bs : List ℕ) (at : ℕ) (d : QoaDecoder) (out : List ℤ) (at' : ℕ) (r : DecodedInto) (out' : List ℤ) : Type 0 where
-  pub told : toldInto (r .answer) ≡ after (intoRules bs (there at d) (length out)) (good (intoCount (there at d) (length out)))
+  pub told : toldCount (r .answer) ≡ after (intoRules bs (there at d) (length out)) (good (intoCount (there at d) (length out)))
   pub left : Handed (firstOf (intoRules bs (there at d) (length out))) at d (intoAfter bs (there at d) (length out)) at' (r .state)
   pub stored : out' ≡ storedUnless (firstOf (intoRules bs (there at d) (length out))) (written (comingAt bs (there at d)) out 0 1 (intoCount (there at d) (length out))) out
 

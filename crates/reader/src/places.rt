@@ -3,10 +3,10 @@ ghost use mathlib.Core.Path.{_≡_};
 ghost use Rattle.reader.specs.Read.{FrameRead, IntoRead, ItemRead, placed};
 use decoder::DecodedInto;
 use decoder::FrameAnswer;
-use decoder::IntoAnswer;
 use decoder::NextFrame;
 use decoder::NextItem;
 use decoder::QoaItem;
+use refusal::CountAnswer;
 use state::QoaDecoder;
 
 pub struct DecodedAt {
@@ -40,11 +40,11 @@ pub fn decode_at(bytes: &[u8], at: usize, d: QoaDecoder, out: &mut [i16]) -> Dec
     let answer = done.answer;
     let state = done.state;
     match answer {
-        IntoAnswer::Refused(_) => DecodedAt {
+        CountAnswer::Refused(_) => DecodedAt {
             at,
             done: DecodedInto { answer, state: d },
         },
-        IntoAnswer::Count(_) => DecodedAt { at: state.at, done },
+        CountAnswer::Count(_) => DecodedAt { at: state.at, done },
     }
 }
 

@@ -2,7 +2,7 @@
 // it could write, whole, as it stands after the call. tools/README.md, "vectors", has the form of both.
 ghost use Prim.Native.Nat.{_<_, _≤_};
 ghost use lib.ListN.{length};
-ghost use Rattle.replay.specs.Fit.{Fits, Laid};
+ghost use Rattle.replay.specs.Parts.{Fits, Laid};
 use lines::hex;
 use lines::lists;
 use lines::parts;

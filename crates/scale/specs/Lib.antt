@@ -1,4 +1,4 @@
 -- What the contracts cite.
 pub mod Tables
 pub mod Division
-pub mod Quick
+pub mod Parts

@@ -7,7 +7,7 @@ ghost use lib.Signed.{shrZ};
 ghost use Rattle.wrap.specs.Wrap.{wrap32};
 ghost use Rattle.scale.specs.Tables.{dequantTab, reciprocalTab, rowOf};
 ghost use Rattle.scale.specs.Division.{codeFor, dividedBy};
-ghost use Rattle.scale.specs.Quick.{halfOf, quickCodes, quickPlace, quickRow, quickTab};
+ghost use Rattle.scale.specs.Parts.{halfOf, quickCodes, quickPlace, quickRow, quickTab};
 
 // The code at each place: a half for residuals from 0 up, then one for those below. In each the shifted product is -7 to 7,
 // then 8 and more, then -8 and less.

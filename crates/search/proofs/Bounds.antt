@@ -9,7 +9,7 @@ use lib.IntN.{ℤ}
 use mir.Syntax.{w16}
 use mir.Val.{SFits}
 use Rattle.word.proofs.Push.{push-lt}
-use Rattle.lms.specs.Predictor.{WeightsWithin}
+use Rattle.lms.specs.Parts.{WeightsWithin}
 use Rattle.lms.specs.declared.QoaLms.{QoaLms}
 use Rattle.lms.proofs.Bounds.{within-more}
 use Rattle.trial.proofs.Bounds.{tried-code-lt, tried-cost-lt, tried-within}

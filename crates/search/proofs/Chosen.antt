@@ -10,7 +10,7 @@ use lib.IntN.{ℤ}
 use lib.ListN.{length}
 use Rattle.lms.specs.Predictor.{at}
 use Rattle.lms.specs.declared.QoaLms.{QoaLms}
-use Rattle.search.specs.Candidate.{Best, none, leads, Outcome, not-taken, dropped, halved, finished, startOf, beats, candidate, after}
+use Rattle.search.specs.Candidate.{Best, none, leads, Outcome, not-taken, dropped, halved, finished, startOf, beats, candidate, bestWith}
 use Rattle.search.specs.Search.{firstCost, ordered, Entry, unheard, onward, traceFrom, traceOf, bestAfter, searched, leaderOf, chosen, trialsIn, trialsOf}
 use Rattle.search.specs.declared.Run.{Run}
 use Rattle.search.proofs.Outcomes.{Fair, fair, none-finishes, later-most}
@@ -28,16 +28,16 @@ won-by : (lms : QoaLms) (xs : List ℤ) (b : Best) (f : ℕ) (r : Run) (t : Bool
 won-by lms xs b f r true h e o = (h, e)
 won-by lms xs b f r false h e o = o
 
-won-after : (lms : QoaLms) (xs : List ℤ) (b : Best) (a n f : ℕ) (o : Outcome) → f < 16 → Fair b a (whole f (startOf lms f) xs) n o → Won lms xs b → Won lms xs (after b f o)
-unfolding after Fair
+won-after : (lms : QoaLms) (xs : List ℤ) (b : Best) (a n f : ℕ) (o : Outcome) → f < 16 → Fair b a (whole f (startOf lms f) xs) n o → Won lms xs b → Won lms xs (bestWith b f o)
+unfolding bestWith Fair
 won-after lms xs b a n f (not-taken c) h e w = w
 won-after lms xs b a n f (dropped i rank) h e w = w
 won-after lms xs b a n f (halved rank) h e w = w
 won-after lms xs b a n f (finished r) h e w = won-by lms xs b f r (beats (r .rank) b) h e w
 
-won-onward : (lms : QoaLms) (xs : List ℤ) (b : Best) (f : ℕ) (fs : List ℕ) (o : Outcome) (later : List Entry) → Won lms xs (after b f o) → Won lms xs (bestAfter (after b f o) later)
-    → Won lms xs (bestAfter (after b f o) (onward o (map (unheard lms xs b) fs) later))
-unfolding after
+won-onward : (lms : QoaLms) (xs : List ℤ) (b : Best) (f : ℕ) (fs : List ℕ) (o : Outcome) (later : List Entry) → Won lms xs (bestWith b f o) → Won lms xs (bestAfter (bestWith b f o) later)
+    → Won lms xs (bestAfter (bestWith b f o) (onward o (map (unheard lms xs b) fs) later))
+unfolding bestWith
 won-onward lms xs b f fs (not-taken c) later w l = rw (unheard-best lms xs b fs) w
 won-onward lms xs b f fs (dropped i rank) later w l = l
 won-onward lms xs b f fs (halved rank) later w l = l
@@ -50,11 +50,11 @@ module _ (lms : QoaLms) (x : ℤ) (xs : List ℤ) where
   won-trace b (f ∷ fs) a w =
       let o = candidate lms (x ∷ xs) b f in
       let next = won-after lms (x ∷ xs) b (firstCost lms x f) (length (x ∷ xs)) f o (a .0) (fair lms x xs b f) w in
-      won-onward lms (x ∷ xs) b f fs o _ next (won-trace (after b f o) fs (a .1) next)
+      won-onward lms (x ∷ xs) b f fs o _ next (won-trace (bestWith b f o) fs (a .1) next)
 
   -- The first of the order finishes, since it meets no best.
   won-first : (f : ℕ) (fs : List ℕ) → All (λ g. g < 16) (f ∷ fs) → Won lms (x ∷ xs) (bestAfter none (traceFrom lms (x ∷ xs) none (f ∷ fs)))
-  unfolding traceFrom bestAfter after beats
+  unfolding traceFrom bestAfter bestWith beats
   won-first f fs a =
       rw (none-finishes (firstCost lms x f) (whole f (startOf lms f) (x ∷ xs)) (length (x ∷ xs)) (candidate lms (x ∷ xs) none f) (fair lms x xs none f))
       (won-trace (leads f (whole f (startOf lms f) (x ∷ xs))) fs (a .1) (a .0, refl))
@@ -98,12 +98,12 @@ trace-most lms x xs b (f ∷ fs) =
     let o = candidate lms (x ∷ xs) b f in
     let n = length (x ∷ xs) in
     let ended = map (unheard lms (x ∷ xs) b) fs in
-    let later = traceFrom lms (x ∷ xs) (after b f o) fs in
+    let later = traceFrom lms (x ∷ xs) (bestWith b f o) fs in
     omega (
       arith,
       suc-mul (length fs) (n - 1),
       later-most b (firstCost lms x f) (whole f (startOf lms f) (x ∷ xs)) n o (fair lms x xs b f),
-      onward-most n (length fs * (n - 1)) o ended later (unheard-trials lms (x ∷ xs) n b fs) (trace-most lms x xs (after b f o) fs),
+      onward-most n (length fs * (n - 1)) o ended later (unheard-trials lms (x ∷ xs) n b fs) (trace-most lms x xs (bestWith b f o) fs),
     )
 
 pub trials-most : (lms : QoaLms) (xs : List ℤ) → 0 < length xs → trialsOf lms xs ≤ 16 * length xs

@@ -11,7 +11,7 @@ use lib.ListN.{length, getD, take}
 use mir.Syntax.{w16}
 use mir.Val.{SFits}
 use Rattle.word.specs.Word.{packed}
-use Rattle.lms.specs.Predictor.{at, HistoryFits}
+use Rattle.lms.specs.Predictor.{at}
 use Rattle.lms.specs.declared.QoaLms.{QoaLms}
 use Rattle.scale.specs.Tables.{rowOf}
 use Rattle.trial.specs.Trial.{heard, tried}
@@ -20,6 +20,7 @@ use Rattle.search.specs.Candidate.{startOf, stepOf}
 use Rattle.search.specs.Reconstruction.{sumsTried, lmsTried}
 use Rattle.search.specs.declared.Run.{Run}
 use Rattle.search.proofs.Bounds.{Sized, sized-step}
+use Rattle.lms.specs.Parts.{HistoryFits}
 
 unfoldable pub whole : ℕ → Run → List ℤ → Run
 whole f r [] = r

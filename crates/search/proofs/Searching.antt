@@ -11,7 +11,7 @@ use lib.Dec.{ltb}
 use lib.ListN.{length, drop, getD}
 use Rattle.word.specs.Written.{table}
 use Rattle.word.proofs.Tables.{getD-table}
-use Rattle.lms.specs.Predictor.{at, WeightsWithin}
+use Rattle.lms.specs.Predictor.{at}
 use Rattle.lms.specs.declared.QoaLms.{QoaLms}
 use Rattle.trial.specs.Trial.{tried}
 use Rattle.trial.proofs.Bounds.{tried-cost-lt}
@@ -24,6 +24,7 @@ use Rattle.search.specs.declared.Run.{Run}
 use Rattle.search.proofs.Bounds.{Sized, sized-start, sized-step, rank-step}
 use Rattle.search.proofs.Keys.{Valued}
 use Rattle.search.proofs.Steps.{limit-exceeds, limit-beats, Lost, kept, lost, run-step, run-end, taken-up, passed-over, left-ends, left-lost, left-won, left-not-lower}
+use Rattle.lms.specs.Parts.{WeightsWithin}
 
 -- At the candidates' loop: the leader shows the best so far, and what is left of the search gives the whole search's best and trials.
 pub record Held (lms : QoaLms) (xs : List ℤ) (met : Best) (leader : Leader) (trials : ℕ) (rest : List ℕ) : Type 0 where

@@ -8,7 +8,7 @@ use lib.IntN.{ℤ}
 use lib.ListN.{length, getD}
 use Rattle.word.specs.Word.{codeOf, filled, packed, scaleOf}
 use Rattle.word.proofs.Words.{code-of-filled, filled-lt, packed-lt, scale-of-filled}
-use Rattle.lms.specs.Predictor.{HistoryFits, WeightsWithin}
+use Rattle.lms.specs.Parts.{HistoryFits, WeightsWithin}
 use Rattle.lms.specs.declared.QoaLms.{QoaLms}
 use Rattle.lms.proofs.Bounds.{within-more}
 use Rattle.search.specs.Candidate.{startOf}

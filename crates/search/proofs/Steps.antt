@@ -17,7 +17,7 @@ use Rattle.lms.specs.declared.QoaLms.{QoaLms}
 use Rattle.trial.specs.declared.Heard.{Heard}
 use Rattle.trial.specs.Trial.{tried}
 use Rattle.trial.proofs.Bounds.{tried-heard}
-use Rattle.search.specs.Candidate.{Best, none, leads, Verdict, goes-on, over-best, over-half, Outcome, not-taken, dropped, halved, finished, startOf, stepOf, exceeds, beats, verdict, ruled, runFrom, candidate, after}
+use Rattle.search.specs.Candidate.{Best, none, leads, Verdict, goes-on, over-best, over-half, Outcome, not-taken, dropped, halved, finished, startOf, stepOf, exceeds, beats, verdict, ruled, runFrom, candidate, bestWith}
 use Rattle.search.specs.Search.{firstCost, unheard, traceFrom, bestAfter, leaderOf, laterTrials, trialsIn}
 use Rattle.search.specs.Parts.{begunOf, drops}
 use Rattle.search.specs.declared.Run.{Run}
@@ -113,7 +113,7 @@ passed-over lms (x ∷ xs) b f h e = rw (first-rank, e)
 
 -- Those behind the end change nothing and try nothing.
 pub unheard-best : (lms : QoaLms) (xs : List ℤ) (b : Best) (fs : List ℕ) → bestAfter b (map (unheard lms xs b) fs) ≡ b
-unfolding bestAfter unheard after
+unfolding bestAfter unheard bestWith
 unheard-best lms xs b [] = refl
 unheard-best lms xs b (f ∷ fs) = unheard-best lms xs b fs
 
@@ -132,25 +132,25 @@ module _ (lms : QoaLms) (xs : List ℤ) (b : Best) (f : ℕ) (fs : List ℕ) whe
   On next more = Left lms xs b (f ∷ fs) (bestAfter next (traceFrom lms xs next fs)) (more + trialsIn (length xs) (traceFrom lms xs next fs))
 
   pub left-ends : (c : ℕ) → candidate lms xs b f ≡ not-taken c → Left lms xs b (f ∷ fs) b 0
-  unfolding traceFrom bestAfter trialsIn after laterTrials
+  unfolding traceFrom bestAfter trialsIn bestWith laterTrials
   left-ends c e = record { best = rw e (unheard-best lms xs b fs); trials = rw e (omega (arith, unheard-trials lms xs (length xs) b fs)) }
 
   lost-on : {i rank : ℕ} (o : Outcome) → candidate lms xs b f ≡ o → Lost i rank o → On b i
-  unfolding traceFrom bestAfter trialsIn after laterTrials
+  unfolding traceFrom bestAfter trialsIn bestWith laterTrials
   lost-on o e by-best = record { best = rw e refl; trials = rw e refl }
   lost-on o e (by-half ten) = record { best = rw e refl; trials = rw (e, ten) refl }
 
   pub left-lost : {i rank : ℕ} → Lost i rank (candidate lms xs b f) → On b i
   left-lost l = lost-on (candidate lms xs b f) refl l
 
-  left-finished : (r : Run) → candidate lms xs b f ≡ finished r → On (after b f (finished r)) (length xs - 1)
+  left-finished : (r : Run) → candidate lms xs b f ≡ finished r → On (bestWith b f (finished r)) (length xs - 1)
   unfolding traceFrom bestAfter trialsIn laterTrials
   left-finished r e = record { best = rw e; trials = rw e }
 
   pub left-won : (r : Run) → candidate lms xs b f ≡ finished r → beats (r .rank) b ≡ true → On (leads f r) (length xs - 1)
-  unfolding after
+  unfolding bestWith
   left-won r e w = rw w at (left-finished r e)
 
   pub left-not-lower : (r : Run) → candidate lms xs b f ≡ finished r → beats (r .rank) b ≡ false → On b (length xs - 1)
-  unfolding after
+  unfolding bestWith
   left-not-lower r e w = rw w at (left-finished r e)

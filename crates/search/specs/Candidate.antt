@@ -76,8 +76,8 @@ candidate lms (x ∷ xs) b sf =
     (runFrom sf b 1 (stepOf sf x (startOf lms sf)) xs)
 
 -- the best after it: a finished candidate wins only if strictly below the best
-unfoldable pub after : Best → ℕ → Outcome → Best
-after b sf (not-taken c) = b
-after b sf (dropped i rank) = b
-after b sf (halved rank) = b
-after b sf (finished r) = cond (beats (r .rank) b) (leads sf r) b
+unfoldable pub bestWith : Best → ℕ → Outcome → Best
+bestWith b sf (not-taken c) = b
+bestWith b sf (dropped i rank) = b
+bestWith b sf (halved rank) = b
+bestWith b sf (finished r) = cond (beats (r .rank) b) (leads sf r) b

@@ -11,7 +11,7 @@ use Rattle.word.specs.Written.{table}
 use Rattle.lms.specs.Predictor.{at}
 use Rattle.lms.specs.declared.QoaLms.{QoaLms}
 use Rattle.trial.specs.Trial.{tried}
-use Rattle.search.specs.Candidate.{Best, none, leads, Outcome, not-taken, dropped, halved, finished, candidate, after}
+use Rattle.search.specs.Candidate.{Best, none, leads, Outcome, not-taken, dropped, halved, finished, candidate, bestWith}
 use Rattle.search.specs.declared.Leader.{Leader}
 use Rattle.search.specs.declared.Encoded.{Encoded}
 
@@ -59,7 +59,7 @@ unfoldable pub traceFrom : QoaLms → List ℤ → Best → List ℕ → List En
 traceFrom lms xs b [] = []
 traceFrom lms xs b (f ∷ fs) =
     record { sf = f; met = b; outcome = candidate lms xs b f }
-    ∷ onward (candidate lms xs b f) (map (unheard lms xs b) fs) (traceFrom lms xs (after b f (candidate lms xs b f)) fs)
+    ∷ onward (candidate lms xs b f) (map (unheard lms xs b) fs) (traceFrom lms xs (bestWith b f (candidate lms xs b f)) fs)
 
 -- the search of a slice: the sixteen, ordered by the first sample's cost, from no best
 unfoldable pub traceOf : QoaLms → List ℤ → List Entry
@@ -69,7 +69,7 @@ traceOf lms xs = traceFrom lms xs none (ordered (firstCost lms (at xs 0)) 16)
 
 unfoldable pub bestAfter : Best → List Entry → Best
 bestAfter b [] = b
-bestAfter b (t ∷ ts) = bestAfter (after b (t .sf) (t .outcome)) ts
+bestAfter b (t ∷ ts) = bestAfter (bestWith b (t .sf) (t .outcome)) ts
 
 unfoldable pub searched : QoaLms → List ℤ → Best
 searched lms xs = bestAfter none (traceOf lms xs)

@@ -3,12 +3,13 @@ use lms::QoaLms;
 ghost use mathlib.Core.Path.{_≡_};
 ghost use Prim.Native.Nat.{_+_, _-_, _*_, _≤_, _<_, _^_};
 ghost use lib.ListN.{length, take};
-ghost use Rattle.lms.specs.Predictor.{at, WeightsWithin};
-ghost use Rattle.scale.specs.Quick.{quickCodes, quickRow, quickTab};
+ghost use Rattle.lms.specs.Predictor.{at};
+ghost use Rattle.scale.specs.Parts.{quickCodes, quickRow, quickTab};
 ghost use Rattle.scale.specs.Tables.{dequantTab, reciprocalTab, rowOf};
 ghost use Rattle.search.specs.Candidate.{none, stepOf};
 ghost use Rattle.search.specs.Search.{encodedSlice, leaderOf, strided};
 ghost use Rattle.search.specs.Parts.{begunOf, countedOf, drops, firstsOf, SamplesFit};
+ghost use Rattle.lms.specs.Parts.{WeightsWithin};
 
 mod order;
 

@@ -13,11 +13,11 @@ use Rattle.trial.specs.Trial.{heard, sampleOf}
 use Rattle.slice.specs.Slice.{sampleAt, stateAfter}
 use native.Mathlib.Omega.{arith}
 use mathlib.Core.Option.{Option, none, some}
-use Rattle.word.specs.Rules.{firstOf}
-use Rattle.word.proofs.Rules.{fires, none-fires}
+use Rattle.refusal.specs.Rules.{firstOf}
+use Rattle.refusal.proofs.Rules.{fires, none-fires}
 use Rattle.word.proofs.Tests.{tests}
-use Rattle.header.specs.Format.{stateEnd}
-use Rattle.header.specs.Header.{sizeSlices, headerRules}
+use Rattle.format.specs.Format.{stateEnd}
+use Rattle.format.specs.Header.{sizeSlices, headerRules}
 
 -- D1-D3: divide 32767, 32768, -32768 at scale factor 0. D4, D5: divide 1, -1 at 15
 pub D1 : dividedBy (pos 32767) 0 ≡ pos 32767

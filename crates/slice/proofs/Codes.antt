@@ -10,12 +10,13 @@ use lib.Signed.{mag}
 use mir.Syntax.{w32}
 use Rattle.wrap.proofs.Integers.{reread, returned}
 use Rattle.word.specs.Word.{codeOf, scaleOf}
-use Rattle.ahead.specs.Loop.{gainsOf, SmallGains}
+use Rattle.ahead.specs.Parts.{gainsOf, SmallGains}
 use Rattle.lms.specs.Predictor.{at}
 use Rattle.ahead.proofs.GainLaws.{gains-small}
 use Rattle.scale.specs.Tables.{rowOf}
-use Rattle.slice.specs.Slice.{residualAt, GainsOf}
+use Rattle.slice.specs.Slice.{residualAt}
 use Rattle.slice.proofs.Growth.{residual-small}
+use Rattle.slice.specs.Parts.{GainsOf}
 
 module _ (word i : ℕ) {code : ℕ} (code-is : code ≡ codeOf word i) where
   pub code-lt : code < 8

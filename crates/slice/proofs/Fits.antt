@@ -2,7 +2,7 @@
 use Prim.Native.Nat.{ℕ, zero, suc}
 use mir.Syntax.{w16}
 use mir.Val.{SFits}
-use Rattle.lms.specs.Predictor.{HistoryFits}
+use Rattle.lms.specs.Parts.{HistoryFits}
 use Rattle.lms.specs.declared.QoaLms.{QoaLms}
 use Rattle.trial.specs.Trial.{heard}
 use Rattle.trial.proofs.Bounds.{heard-fits, sample-fits}

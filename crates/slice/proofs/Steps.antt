@@ -6,12 +6,13 @@ use native.Mathlib.Numerals.{add-one}
 use lib.IntN.{ℤ, _+ℤ_}
 use lib.ListN.{set}
 use Rattle.word.specs.Written.{written}
-use Rattle.ahead.specs.Loop.{aheadOf}
+use Rattle.ahead.specs.Parts.{aheadOf}
 use Rattle.lms.specs.Predictor.{clamp16, predicted, updated}
 use Rattle.ahead.specs.declared.Ahead.{Ahead}
 use Rattle.lms.specs.declared.QoaLms.{QoaLms}
 use Rattle.trial.specs.Trial.{heard, sampleOf}
-use Rattle.slice.specs.Slice.{residualAt, sampleAt, stateAfter, HeardTo}
+use Rattle.slice.specs.Slice.{residualAt, sampleAt, stateAfter}
+use Rattle.slice.specs.Parts.{HeardTo}
 
 -- a sample that is the clamped sum goes on from any predictor and memory that came so far
 pub heard-next : (w : ℕ) (s : QoaLms) (o : List ℤ) (start stride i : ℕ) (state : QoaLms) (out : List ℤ) (x : ℤ) → x ≡ clamp16 (predicted state +ℤ residualAt w i)

@@ -6,7 +6,7 @@ use lib.IntN.{ℤ}
 use lib.ListN.{getD}
 use Rattle.word.specs.Word.{scaleOf, codeOf}
 use Rattle.word.specs.Written.{written}
-use Rattle.ahead.specs.Loop.{gainsOf}
+use Rattle.ahead.specs.Parts.{gainsOf}
 use Rattle.lms.specs.Predictor.{at}
 use Rattle.lms.specs.declared.QoaLms.{QoaLms}
 use Rattle.scale.specs.Tables.{rowOf}
@@ -24,11 +24,3 @@ stateAfter w s (suc n) = heard (stateAfter w s n) (residualAt w n) .lms
 -- the i-th sample
 unfoldable pub sampleAt : ℕ → QoaLms → ℕ → ℤ
 sampleAt w s i = heard (stateAfter w s i) (residualAt w i) .sample
-
--- n samples are heard, and stored at start, start + stride, ..: from the predictor s to `after`, from the memory o to `out`
-abbrev pub HeardTo : ℕ → QoaLms → List ℤ → ℕ → ℕ → ℕ → QoaLms → List ℤ → Type 0
-HeardTo w s o start stride n after out = (after ≡ stateAfter w s n) × (out ≡ written (sampleAt w s) o start stride n)
-
--- what a weight gains by each of a row's eight table values
-abbrev pub GainsOf : List (List ℤ) → List ℤ → Type 0
-GainsOf gains row = (code : ℕ) → code < 8 → getD gains code [] ≡ gainsOf (at row code)

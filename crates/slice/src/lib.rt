@@ -1,5 +1,5 @@
 // A slice, decoded into lent samples. `tab` is the dequantising table, which a caller holds for a whole frame.
-use header::frame::QOA_SLICE_LEN;
+use format::frame::QOA_SLICE_LEN;
 use lms::QoaLms;
 use trial::Heard;
 ghost use mathlib.Core.Path.{_≡_};
@@ -9,11 +9,13 @@ ghost use lib.IntN.{ℤ};
 ghost use lib.ListN.{length};
 ghost use Rattle.word.specs.Word.{codeOf, scaleOf};
 ghost use Rattle.word.specs.Written.{written};
-ghost use Rattle.lms.specs.Predictor.{at, WeightsWithin};
+ghost use Rattle.lms.specs.Predictor.{at};
 ghost use Rattle.lms.specs.declared.QoaLms.{QoaLms};
 ghost use Rattle.scale.specs.Tables.{dequantTab, rowOf};
 ghost use Rattle.trial.specs.Trial.{heard};
-ghost use Rattle.slice.specs.Slice.{residualAt, sampleAt, stateAfter, GainsOf, HeardTo};
+ghost use Rattle.slice.specs.Slice.{residualAt, sampleAt, stateAfter};
+ghost use Rattle.lms.specs.Parts.{WeightsWithin};
+ghost use Rattle.slice.specs.Parts.{GainsOf, HeardTo};
 
 // The table value of the i-th code of a word, by a row of the table.
 fn value_at(row: &[i32; 8], word: u64, i: usize) -> i32

@@ -1,7 +1,7 @@
 -- The bound of the weights grows as the samples that remain are decoded, as fast as the weights can. Assumes nothing.
 use Prim.Native.Nat.{ℕ, _+_, _-_, _*_, _^_, _≤_, _<_, min}
 use native.Mathlib.Omega.{arith}
-use Rattle.header.specs.Format.{slicesOf}
+use Rattle.format.specs.Format.{slicesOf}
 use Rattle.state.specs.States.{weightBound}
 
 -- whatever remains

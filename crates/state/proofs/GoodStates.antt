@@ -13,17 +13,20 @@ use lib.ListN.{length, List·getD-eq-default}
 use lib.Signed.{mag}
 use mir.Syntax.{w16}
 use mir.Val.{SFits}
-use Rattle.lms.specs.Predictor.{at, HistoryFits, WeightsWithin}
+use Rattle.lms.specs.Predictor.{at, allShort, historyRule}
 use Rattle.lms.specs.declared.QoaLms.{QoaLms}
-use Rattle.header.specs.Format.{maxChannels, mostRate}
-use Rattle.header.specs.Predictor.{lmsOf}
+use Rattle.format.specs.Format.{maxChannels, mostRate}
+use Rattle.format.specs.Predictor.{lmsOf}
 use Rattle.state.specs.View.{View, channelsOf, view}
-use Rattle.state.specs.States.{allShort, below, goodState, historyRule, lmsRule, modeRule, someChannels, weightBound, weightRule}
+use Rattle.state.specs.States.{goodState, lmsRule, modeRule, someChannels, weightBound, weightRule}
 use Rattle.state.specs.declared.QoaDecoder.{QoaDecoder}
 use Rattle.state.specs.declared.ProcessingMode.{ProcessingMode}
 use Rattle.state.specs.declared.ProcessingMode.the-variants.{FixedSamples, Streaming}
-use Rattle.state.proofs.Belows.{and-both, and-left, and-right, below-all, below-at, below-ext}
+use Rattle.lms.specs.Parts.{HistoryFits, WeightsWithin}
+use Rattle.lms.proofs.Shorts.{anywhere, facts-history, history-facts}
 use Rattle.state.proofs.Views.{view-lms}
+use Rattle.word.specs.Below.{below}
+use Rattle.word.proofs.Belows.{and-both, and-left, and-right, below-all, below-at, below-ext}
 
 -- what the rules say of the mode
 pub record Fixed (total c rate : ℕ) : Type 0 where
@@ -87,29 +90,6 @@ facts-channels zero r f = go r f
 facts-channels (suc c) r f = simp (le-leb 1 (suc c) (omega arith))
 
 -- ---- the predictors
-
--- a test of each number of a list, which 0 passes, is passed by what is read at any index
-anywhere : (p : ℤ → Bool) (xs : List ℤ) → p (pos 0) ≡ true → below (length xs) (λ i. p (at xs i)) ≡ true → (i : ℕ) → p (at xs i) ≡ true
-anywhere p xs z e i =
-    dite (decLt i (length xs))
-    (λ inside. below-at (λ i. p (at xs i)) (length xs) e i inside)
-    (λ past. let end : at xs i ≡ pos 0 = List·getD-eq-default xs (pos 0) (omega arith) in rw end z)
-
-pub short-fits : (xs : List ℤ) → allShort xs ≡ true → (i : ℕ) → SFits w16 (at xs i)
-unfolding allShort
-short-fits xs e i = record { sfits = ltb-true _ _ (anywhere (λ z. ltb (mag z) 32768) xs refl e i) }
-
-pub fits-short : (xs : List ℤ) → ((i : ℕ) → SFits w16 (at xs i)) → allShort xs ≡ true
-unfolding allShort
-fits-short xs f = below-all (λ i. ltb (mag (at xs i)) 32768) (length xs) (λ i l. lt-ltb (mag (at xs i)) 32768 (f i .sfits))
-
-pub history-facts : (s : QoaLms) → historyRule s ≡ true → HistoryFits s
-unfolding historyRule
-history-facts s e = record { fit = λ i. short-fits (s .history) e i }
-
-pub facts-history : (s : QoaLms) → HistoryFits s → historyRule s ≡ true
-unfolding historyRule
-facts-history s f = fits-short (s .history) (λ i. f .fit i)
 
 pub weight-facts : (b : ℕ) (s : QoaLms) → weightRule b s ≡ true → WeightsWithin b s
 unfolding weightRule

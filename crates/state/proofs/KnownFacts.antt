@@ -2,8 +2,8 @@
 use Prim.Native.Nat.{ℕ}
 use mathlib.Core.Path.{_≡_, refl}
 use mathlib.Core.Bool.{true, false}
-use Rattle.word.specs.Rules.{firstOf, good, refused}
-use Rattle.header.specs.Facts.{factsOf}
+use Rattle.refusal.specs.Rules.{firstOf, good, refused}
+use Rattle.format.specs.Facts.{factsOf}
 use Rattle.state.specs.View.{View}
 use Rattle.state.specs.States.{goodState}
 use Rattle.state.specs.Facts.{factsAnswer, factsFor}

@@ -1,5 +1,4 @@
 -- What the proofs of this crate and of those above it cite.
-pub mod Belows
 pub mod Bounds
 pub mod Views
 pub mod GoodStates

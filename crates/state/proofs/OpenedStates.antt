@@ -9,20 +9,20 @@ use native.Mathlib.Nat.{le-refl, not-suc-le-zero}
 use borrow.Author.Tests.{eqb-false, not-true}
 use lib.Dec.{eqb, lit≤}
 use lib.ListN.{length}
-use Rattle.word.specs.Rules.{firstOf}
+use Rattle.refusal.specs.Rules.{firstOf}
 use Rattle.word.specs.Written.{table}
-use Rattle.word.proofs.Rules.{Quiet, none-fires, quiet, quiet-parts}
+use Rattle.refusal.proofs.Rules.{Quiet, none-fires, quiet, quiet-parts}
 use Rattle.word.proofs.Tables.{getD-table}
 use Rattle.word.proofs.Tests.{tests}
-use Rattle.lms.specs.Predictor.{HistoryFits, WeightsWithin}
+use Rattle.lms.specs.Parts.{HistoryFits, WeightsWithin}
 use Rattle.lms.proofs.Bounds.{within-more}
-use Rattle.header.specs.FileHeader.{fileRules, isFixed, totalOf}
-use Rattle.header.specs.Format.{stateEnd}
-use Rattle.header.specs.Header.{headerAt, headerRules, leftAt}
-use Rattle.header.specs.Part.{cutRules}
-use Rattle.header.specs.Predictor.{lmsAt, lmsOf, noLms}
+use Rattle.format.specs.FileHeader.{fileRules, isFixed, totalOf}
+use Rattle.format.specs.Format.{stateEnd}
+use Rattle.format.specs.Header.{headerAt, headerRules, leftAt}
+use Rattle.format.specs.Part.{cutRules}
+use Rattle.format.specs.Predictor.{lmsAt, lmsOf, noLms}
 use Rattle.word.proofs.Fields.{AreBytes}
-use Rattle.header.proofs.Headers.{header-small, passes}
+use Rattle.format.proofs.Headers.{header-small, passes}
 use Rattle.predictors.proofs.Predictors.{read-fits, read-within}
 use Rattle.state.specs.States.{goodState, weightBound}
 use Rattle.state.specs.Opening.{firstRules, openRules, openedAt, openedFixed, openedStream}

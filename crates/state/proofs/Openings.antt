@@ -9,26 +9,26 @@ use borrow.Author.Tests.{eq-eqb, ne-eqb}
 use lib.Dec.{ltb}
 use lib.IntN.{ℤ}
 use lib.ListN.{length}
-use Rattle.word.specs.Rules.{good, refused, _gives_, after, firstOf}
+use Rattle.refusal.specs.Rules.{good, refused, _gives_, after, firstOf}
 use Rattle.word.specs.Written.{table, written}
-use Rattle.word.proofs.Rules.{after-good, after-refused, fires, fires-left, fires-right, good-same, none-fires, quiet, quiet-parts}
+use Rattle.refusal.proofs.Rules.{after-good, after-refused, fires, fires-left, fires-right, good-same, none-fires, quiet, quiet-parts}
 use Rattle.word.proofs.Tests.{tests}
-use Rattle.header.specs.FileHeader.{fileHeader, fileRules, isFixed, totalOf}
-use Rattle.header.specs.Format.{maxChannels, stateEnd}
-use Rattle.header.specs.Header.{headerAt, headerRules, leftAt}
-use Rattle.header.specs.Part.{cutRules}
-use Rattle.header.specs.Predictor.{lmsAt}
-use Rattle.header.specs.Refusals.{numberOf}
-use Rattle.header.specs.declared.frame.FrameHeader.{FrameHeader}
-use Rattle.header.specs.declared.refusal.Refusal.{Refusal}
-use Rattle.header.proofs.Headers.{passes}
+use Rattle.format.specs.FileHeader.{fileHeader, fileRules, isFixed, totalOf}
+use Rattle.format.specs.Format.{maxChannels, stateEnd}
+use Rattle.format.specs.Header.{headerAt, headerRules, leftAt}
+use Rattle.format.specs.Part.{cutRules}
+use Rattle.format.specs.Predictor.{lmsAt}
+use Rattle.refusal.specs.Refusals.{numberOf, toldChecked}
+use Rattle.format.specs.declared.frame.FrameHeader.{FrameHeader}
+use Rattle.refusal.specs.declared.Refusal.{Refusal}
+use Rattle.format.proofs.Headers.{passes}
 use Rattle.lms.specs.declared.QoaLms.{QoaLms}
 use Rattle.state.specs.View.{factsIn, view}
-use Rattle.state.specs.Opening.{OpenLeaves, firstRules, openRules, openedAt, openedFixed, openedStream, toldOpen, zeroState}
+use Rattle.state.specs.Opening.{OpenLeaves, firstRules, openRules, openedAt, openedFixed, openedStream, zeroState}
 use Rattle.state.specs.declared.QoaDecoder.{QoaDecoder}
 use Rattle.state.specs.declared.ProcessingMode.the-variants.{FixedSamples}
-use Rattle.state.specs.declared.OpenAnswer.{OpenAnswer}
-use Rattle.state.specs.declared.OpenAnswer.the-variants.{Opened, Refused}
+use Rattle.refusal.specs.declared.Checked.{Checked}
+use Rattle.refusal.specs.declared.Checked.the-variants.{Passed, Refused}
 use Rattle.state.proofs.Views.{stored-lms}
 
 -- ---- the first frame
@@ -118,11 +118,11 @@ module _ (bs : List ℕ) where
       })
 
   -- what the contract says
-  abbrev pub Opens : OpenAnswer → QoaDecoder → Type 0
-  Opens a d = (toldOpen a ≡ after (openRules bs) (good tt)) × OpenLeaves (firstOf (openRules bs)) bs d
+  abbrev pub Opens : Checked → QoaDecoder → Type 0
+  Opens a d = (toldChecked a ≡ firstOf (openRules bs)) × OpenLeaves (firstOf (openRules bs)) bs d
 
   pub opens-refused : (r : Refusal) (d : QoaDecoder) → firstOf (openRules bs) ≡ some (numberOf r) → d ≡ zeroState → Opens (Refused r) d
   opens-refused r d e z = rw e (refl, z)
 
-  pub opens-good : (d : QoaDecoder) → firstOf (openRules bs) ≡ none → view d ≡ openedAt bs → Opens Opened d
+  pub opens-good : (d : QoaDecoder) → firstOf (openRules bs) ≡ none → view d ≡ openedAt bs → Opens Passed d
   opens-good d e v = rw e (refl, v)

@@ -11,7 +11,7 @@ use Rattle.word.specs.Written.{table, written}
 use Rattle.word.proofs.Tables.{getD-table, length-table, table-ext}
 use Rattle.word.proofs.Writes.{written-at}
 use Rattle.lms.specs.declared.QoaLms.{QoaLms}
-use Rattle.header.specs.Predictor.{lmsOf, noLms}
+use Rattle.format.specs.Predictor.{lmsOf, noLms}
 use Rattle.state.specs.View.{view}
 use Rattle.state.specs.declared.QoaDecoder.{QoaDecoder}
 

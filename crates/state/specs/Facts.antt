@@ -2,10 +2,10 @@
 use Prim.Native.Nat.{ℕ}
 use mathlib.Core.Bool.{not}
 use mathlib.Core.List.{[], _∷_}
-use Rattle.word.specs.Rules.{Answer, good, refused, _gives_, after}
-use Rattle.header.specs.Facts.{factsOf}
-use Rattle.header.specs.Refusals.{numberOf}
-use Rattle.header.specs.declared.facts.Facts.{Facts}
+use Rattle.refusal.specs.Rules.{Answer, good, refused, _gives_, after}
+use Rattle.format.specs.Facts.{factsOf}
+use Rattle.refusal.specs.Refusals.{numberOf}
+use Rattle.format.specs.declared.facts.Facts.{Facts}
 use Rattle.state.specs.View.{View}
 use Rattle.state.specs.States.{goodState}
 use Rattle.state.specs.declared.FrameFacts.{FrameFacts}

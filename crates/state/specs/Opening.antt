@@ -7,20 +7,17 @@ use mathlib.Core.Path.{_≡_}
 use lib.Dec.{ltb}
 use lib.IntN.{pos}
 use lib.ListN.{replicate}
-use Rattle.word.specs.Rules.{Answer, good, refused, Rule, _gives_}
+use Rattle.refusal.specs.Rules.{Rule, _gives_}
 use Rattle.word.specs.Written.{table}
-use Rattle.lms.specs.declared.QoaLms.{QoaLms}
-use Rattle.header.specs.Format.{maxChannels, stateEnd}
-use Rattle.header.specs.FileHeader.{fileRules, isFixed, totalOf}
-use Rattle.header.specs.Header.{headerAt, headerRules, leftAt}
-use Rattle.header.specs.Part.{cutRules}
-use Rattle.header.specs.Predictor.{lmsAt}
-use Rattle.header.specs.Refusals.{numberOf}
+use Rattle.lms.specs.Predictor.{zeroLms}
+use Rattle.format.specs.Format.{maxChannels, stateEnd}
+use Rattle.format.specs.FileHeader.{fileRules, isFixed, totalOf}
+use Rattle.format.specs.Header.{headerAt, headerRules, leftAt}
+use Rattle.format.specs.Part.{cutRules}
+use Rattle.format.specs.Predictor.{lmsAt}
 use Rattle.state.specs.View.{View, view, factsIn}
 use Rattle.state.specs.declared.QoaDecoder.{QoaDecoder}
 use Rattle.state.specs.declared.ProcessingMode.the-variants.{FixedSamples, Streaming}
-use Rattle.state.specs.declared.OpenAnswer.{OpenAnswer}
-use Rattle.state.specs.declared.OpenAnswer.the-variants.{Opened, Refused}
 
 -- the first frame, at byte 8: fewer than 8 bytes are 2; 3, 6; 5 where the predictor state is cut
 abbrev pub firstRules : List ℕ → List Rule
@@ -63,9 +60,6 @@ unfoldable pub openedAt : List ℕ → View
 openedAt bs = cond (isFixed (totalOf bs)) (openedFixed bs) openedStream
 
 -- the state of a refusal: all zero
-abbrev pub zeroLms : QoaLms
-zeroLms = record { history = replicate 4 (pos 0); weights = replicate 4 (pos 0) }
-
 unfoldable pub zeroState : QoaDecoder
 zeroState = record {
   mode = Streaming;
@@ -83,8 +77,3 @@ zeroState = record {
 abbrev pub OpenLeaves : Option ℕ → List ℕ → QoaDecoder → Type 0
 OpenLeaves none bs d = view d ≡ openedAt bs
 OpenLeaves (some n) bs d = d ≡ zeroState
-
--- what the code's answer tells
-abbrev pub toldOpen : OpenAnswer → Answer (Unit {0})
-toldOpen Opened = good tt
-toldOpen (Refused r) = refused (numberOf r)

@@ -1,15 +1,15 @@
 -- The state rules of a decoder, for an input of so many bytes. Assumes nothing.
-use Prim.Native.Nat.{ℕ, zero, suc, _+_, _-_, _*_}
+use Prim.Native.Nat.{ℕ, _+_, _-_, _*_}
 use mathlib.Core.Bool.{Bool, true, _&&_, _||_}
 use mathlib.Core.List.{List}
-use lib.Dec.{eqb, leb, ltb}
-use lib.IntN.{ℤ, natAbs}
+use lib.Dec.{eqb, leb}
+use lib.IntN.{natAbs}
 use lib.ListN.{length}
-use lib.Signed.{mag}
-use Rattle.lms.specs.Predictor.{at}
+use Rattle.word.specs.Below.{below}
+use Rattle.lms.specs.Predictor.{at, historyRule}
 use Rattle.lms.specs.declared.QoaLms.{QoaLms}
-use Rattle.header.specs.Format.{maxChannels, mostRate, slicesOf}
-use Rattle.header.specs.Predictor.{lmsOf}
+use Rattle.format.specs.Format.{maxChannels, mostRate, slicesOf}
+use Rattle.format.specs.Predictor.{lmsOf}
 use Rattle.state.specs.View.{View, channelsOf}
 use Rattle.state.specs.declared.ProcessingMode.{ProcessingMode}
 use Rattle.state.specs.declared.ProcessingMode.the-variants.{FixedSamples, Streaming}
@@ -22,19 +22,6 @@ modeRule Streaming = true
 -- c at least 1 where samples remain
 unfoldable pub someChannels : ℕ → ℕ → Bool
 someChannels c remaining = leb 1 c || eqb remaining 0
-
--- of each index below a number
-unfoldable pub below : ℕ → (ℕ → Bool) → Bool
-below zero p = true
-below (suc n) p = below n p && p n
-
--- numbers in -32768..32767
-unfoldable pub allShort : List ℤ → Bool
-allShort xs = below (length xs) (λ i. ltb (mag (at xs i)) 32768)
-
--- histories in 16 bits
-unfoldable pub historyRule : QoaLms → Bool
-historyRule lms = allShort (lms .history)
 
 -- weights at most a bound in magnitude
 unfoldable pub weightRule : ℕ → QoaLms → Bool

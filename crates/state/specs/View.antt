@@ -6,11 +6,11 @@ use lib.IntN.{ℤ, pos}
 use lib.ListN.{getD}
 use Rattle.word.specs.Written.{table}
 use Rattle.lms.specs.declared.QoaLms.{QoaLms}
-use Rattle.header.specs.Predictor.{lmsOf}
+use Rattle.format.specs.Predictor.{lmsOf}
 use Rattle.state.specs.declared.ProcessingMode.{ProcessingMode}
 use Rattle.state.specs.declared.FrameFacts.{FrameFacts}
 use Rattle.state.specs.declared.QoaDecoder.{QoaDecoder}
-use Rattle.header.specs.declared.frame.FrameHeader.{FrameHeader}
+use Rattle.format.specs.declared.frame.FrameHeader.{FrameHeader}
 
 pub record View : Type 0 where
   pub mode : ProcessingMode

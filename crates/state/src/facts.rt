@@ -7,7 +7,7 @@ use crate::FactsAnswer;
 use crate::ProcessingMode;
 use crate::QoaDecoder;
 use crate::rules::is_good;
-use header::refusal::Refusal;
+use refusal::Refusal;
 
 // Fixed: the first frame's. Streaming: the current frame's, and no total.
 pub fn facts_given(d: QoaDecoder, bytes: &[u8]) -> FactsAnswer
@@ -19,7 +19,7 @@ pub fn facts_given(d: QoaDecoder, bytes: &[u8]) -> FactsAnswer
     let mode = d.mode;
     let frame = d.frame;
     match mode {
-        ProcessingMode::Streaming => FactsAnswer::Known(header::facts_of(
+        ProcessingMode::Streaming => FactsAnswer::Known(format::facts_of(
             0,
             frame.channels,
             frame.rate,
@@ -28,6 +28,6 @@ pub fn facts_given(d: QoaDecoder, bytes: &[u8]) -> FactsAnswer
             samples,
             channels,
             rate,
-        } => FactsAnswer::Known(header::facts_of(samples, channels, rate)),
+        } => FactsAnswer::Known(format::facts_of(samples, channels, rate)),
     }
 }

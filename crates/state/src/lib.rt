@@ -1,9 +1,9 @@
 // A decoder's state by value, its rules, opening it, and its facts.
-use header::facts::Facts;
-use header::frame::QOA_MAX_CHANNELS;
-use header::frame::QOA_SLICE_LEN;
-use header::refusal::Refusal;
+use format::facts::Facts;
+use format::frame::QOA_MAX_CHANNELS;
+use format::frame::QOA_SLICE_LEN;
 use lms::QoaLms;
+use refusal::Refusal;
 
 pub mod facts;
 pub mod opening;
@@ -13,6 +13,7 @@ pub use facts::facts_given;
 pub use opening::frame_facts;
 pub use opening::open_decoder;
 pub use opening::zero_state;
+use refusal::Checked;
 pub use rules::is_good;
 
 // One slice of every channel.
@@ -52,14 +53,8 @@ pub struct QoaDecoder {
     pub pending: [i16; PENDING],
 }
 
-// An opened decoder; where it is refused the state is all zero.
-pub enum OpenAnswer {
-    Opened,
-    Refused(Refusal),
-}
-
 pub struct OpenedDecoder {
-    pub answer: OpenAnswer,
+    pub answer: Checked,
     pub state: QoaDecoder,
 }
 

@@ -2,30 +2,30 @@
 ghost use mathlib.Core.Path.{_≡_};
 ghost use Prim.Native.Nat.{_+_, _*_, _≤_};
 ghost use lib.ListN.{length};
-ghost use Rattle.word.specs.Rules.{after, firstOf, good};
+ghost use Rattle.refusal.specs.Rules.{after, firstOf, good};
 ghost use Rattle.word.specs.Written.{written};
-ghost use Rattle.header.specs.FileHeader.{totalOf};
-ghost use Rattle.header.specs.Format.{maxChannels, stateEnd};
-ghost use Rattle.header.specs.Header.{headerAt, toldHeader};
-ghost use Rattle.header.specs.Predictor.{lmsAt};
+ghost use Rattle.format.specs.FileHeader.{totalOf};
+ghost use Rattle.format.specs.Format.{maxChannels, stateEnd};
+ghost use Rattle.format.specs.Header.{headerAt, toldHeader};
+ghost use Rattle.format.specs.Predictor.{lmsAt};
 ghost use Rattle.state.specs.View.{factsIn, view};
-ghost use Rattle.state.specs.declared.OpenAnswer.the-variants.{Refused};
-ghost use Rattle.state.specs.Opening.{OpenLeaves, firstRules, openRules, openedFixed, openedStream, toldOpen, zeroState};
+ghost use Rattle.refusal.specs.declared.Checked.the-variants.{Refused};
+ghost use Rattle.state.specs.Opening.{OpenLeaves, firstRules, openRules, openedFixed, openedStream, zeroState};
 use crate::FrameFacts;
-use crate::OpenAnswer;
 use crate::OpenedDecoder;
 use crate::PENDING;
 use crate::ProcessingMode;
 use crate::QoaDecoder;
-use header::file::FileAnswer;
-use header::frame::FrameHeader;
-use header::frame::HeaderAnswer;
-use header::frame::QOA_HEADER_SIZE;
-use header::frame::QOA_LMS_LEN;
-use header::frame::QOA_MAX_CHANNELS;
-use header::refusal::Checked;
-use header::refusal::Refusal;
+use format::frame::FrameHeader;
+use format::frame::HeaderAnswer;
+use format::frame::QOA_HEADER_SIZE;
+use format::frame::QOA_MAX_CHANNELS;
+use lms::QOA_LMS_LEN;
 use lms::QoaLms;
+use refusal::Checked;
+use refusal::CountAnswer;
+use refusal::Refusal;
+ghost use Rattle.refusal.specs.Refusals.{toldChecked};
 
 // What is told of a frame by its header.
 pub fn frame_facts(h: FrameHeader) -> FrameFacts
@@ -76,15 +76,15 @@ fn stream_state() -> QoaDecoder
 fn first_frame(bytes: &[u8]) -> HeaderAnswer
     ensures { λ r. ⌜ toldHeader r ≡ after (firstRules (now (bytes .entry))) (good (headerAt (now (bytes .entry)) 8)) ⌝ }
 {
-    let left = header::bytes_left(bytes, QOA_HEADER_SIZE);
+    let left = format::bytes_left(bytes, QOA_HEADER_SIZE);
     if left < QOA_HEADER_SIZE {
         return HeaderAnswer::Refused(Refusal::NoSamples);
     }
-    let h = header::read_header(bytes, QOA_HEADER_SIZE);
-    match header::check_header(h) {
+    let h = format::read_header(bytes, QOA_HEADER_SIZE);
+    match format::check_header(h) {
         Checked::Refused(r) => HeaderAnswer::Refused(r),
         Checked::Passed => {
-            if left < header::state_end(h.channels as usize) {
+            if left < format::state_end(h.channels as usize) {
                 HeaderAnswer::Refused(Refusal::Truncated)
             } else {
                 HeaderAnswer::Good(h)
@@ -109,7 +109,7 @@ fn fixed_state(bytes: &[u8], total: u32, h: FrameHeader) -> QoaDecoder
             channels: h.channels,
             rate: h.rate,
         },
-        at: QOA_HEADER_SIZE + header::state_end(channels),
+        at: QOA_HEADER_SIZE + format::state_end(channels),
         frame: frame_facts(h),
         remaining: h.samples,
         next: 0,
@@ -124,29 +124,29 @@ fn refused_open(refusal: Refusal) -> OpenedDecoder
     ensures { λ r. ⌜ (r .answer ≡ Refused refusal) × (r .state ≡ zeroState) ⌝ }
 {
     OpenedDecoder {
-        answer: OpenAnswer::Refused(refusal),
+        answer: Checked::Refused(refusal),
         state: zero_state(),
     }
 }
 
 // A decoder at the start of a file.
 pub fn open_decoder(bytes: &[u8]) -> OpenedDecoder
-    ensures { λ r. ⌜ (toldOpen (r .answer) ≡ after (openRules (now (bytes .entry))) (good tt)) × OpenLeaves (firstOf (openRules (now (bytes .entry)))) (now (bytes .entry)) (r .state) ⌝ }
+    ensures { λ r. ⌜ (toldChecked (r .answer) ≡ firstOf (openRules (now (bytes .entry)))) × OpenLeaves (firstOf (openRules (now (bytes .entry)))) (now (bytes .entry)) (r .state) ⌝ }
 {
-    match header::file_header(bytes) {
-        FileAnswer::Refused(r) => refused_open(r),
-        FileAnswer::Total(total) => {
+    match format::file_header(bytes) {
+        CountAnswer::Refused(r) => refused_open(r),
+        CountAnswer::Count(total) => {
             if total == 0 {
                 return OpenedDecoder {
-                    answer: OpenAnswer::Opened,
+                    answer: Checked::Passed,
                     state: stream_state(),
                 };
             }
             match first_frame(bytes) {
                 HeaderAnswer::Refused(r) => refused_open(r),
                 HeaderAnswer::Good(h) => OpenedDecoder {
-                    answer: OpenAnswer::Opened,
-                    state: fixed_state(bytes, total, h),
+                    answer: Checked::Passed,
+                    state: fixed_state(bytes, total as u32, h),
                 },
             }
         }

@@ -3,19 +3,18 @@ ghost use mathlib.Core.Path.{_≡_};
 ghost use mathlib.Core.Bool.{_&&_};
 ghost use Prim.Native.Nat.{_≤_, _*_};
 ghost use lib.Dec.{leb};
-ghost use Rattle.header.specs.Format.{maxChannels};
+ghost use Rattle.format.specs.Format.{maxChannels};
 ghost use Rattle.state.specs.View.{view};
-ghost use Rattle.state.specs.States.{modeRule, someChannels, allShort, weightRule, weightBound, lmsRule, goodState};
+ghost use Rattle.state.specs.States.{modeRule, someChannels, weightRule, weightBound, lmsRule, goodState};
 use crate::FrameFacts;
 use crate::ProcessingMode;
 use crate::QoaDecoder;
-use header::frame::QOA_LMS_LEN;
-use header::frame::QOA_MAX_CHANNELS;
-use header::frame::QOA_SLICE_LEN;
+use format::frame::QOA_MAX_CHANNELS;
+use format::frame::QOA_MOST_RATE;
+use format::frame::QOA_SLICE_LEN;
+use lms::QOA_LMS_LEN;
 use lms::QoaLms;
-
-// The highest rate that 24 bits hold.
-pub const QOA_MOST_RATE: u32 = 16777215;
+ghost use Rattle.lms.specs.Predictor.{allShort};
 
 // In fixed mode a total of at least 1, with the first frame's channels and rate in range.
 fn is_good_mode(mode: ProcessingMode) -> bool
@@ -75,18 +74,6 @@ fn is_good_range(next: usize, end: usize, channels: u8) -> bool
     end <= QOA_SLICE_LEN * (channels as usize)
 }
 
-// Numbers of 16 bits.
-pub fn are_short(xs: [i32; 4]) -> bool
-    ensures { λ r. ⌜ r ≡ allShort xs ⌝ }
-{
-    for i in 0..QOA_LMS_LEN {
-        if !lms::is_short(xs[i]) {
-            return false;
-        }
-    }
-    true
-}
-
 // Weights at most `bound` in magnitude.
 fn are_good_weights(lms: QoaLms, bound: u32) -> bool
     ensures { λ r. ⌜ r ≡ weightRule bound lms ⌝ }
@@ -104,7 +91,7 @@ fn are_good_weights(lms: QoaLms, bound: u32) -> bool
 fn weight_bound(remaining: u16) -> u32
     ensures { λ r. ⌜ r ≡ weightBound remaining ⌝ }
 {
-    let slices = header::slices_of(remaining as usize) as u32;
+    let slices = format::slices_of(remaining as usize) as u32;
     32768 + 17920 * (3277 - slices)
 }
 
@@ -116,7 +103,7 @@ fn are_good_states(states: [QoaLms; QOA_MAX_CHANNELS], channels: usize, bound: u
     for j in 0..channels {
         let lms = states[j];
         let history = lms.history;
-        if !are_short(history) {
+        if !lms::are_short(history) {
             return false;
         }
         if !are_good_weights(lms, bound) {

@@ -6,18 +6,18 @@ use mathlib.Core.List.{List, [], _∷_, _++_}
 use mathlib.Core.Option.{Option, none}
 use native.Mathlib.Omega.{arith}
 use lib.ListN.{length, drop, length-drop}
-use Rattle.word.specs.Rules.{Rule, _gives_, firstOf}
-use Rattle.word.proofs.Rules.{quiet, quiet-parts}
+use Rattle.refusal.specs.Rules.{Rule, _gives_, firstOf}
+use Rattle.refusal.proofs.Rules.{quiet, quiet-parts}
 use Rattle.word.proofs.Tests.{tests}
-use Rattle.header.specs.Format.{maxChannels, stateEnd}
-use Rattle.header.specs.Header.{headerAt, headerRules}
-use Rattle.header.specs.Part.{cutRules, lengthOf}
-use Rattle.header.specs.declared.frame.FrameHeader.{FrameHeader}
-use Rattle.header.proofs.Headers.{passes}
-use Rattle.format.specs.Reader.{frameRules, inOrder, otherRules, sameRules}
-use Rattle.format.specs.Streaming.{freeRules}
-use Rattle.format.proofs.Places.{header-here}
-use Rattle.survey.specs.Survey.{readerFor, rulesFor, sooner}
+use Rattle.format.specs.Format.{maxChannels, stateEnd}
+use Rattle.format.specs.Header.{headerAt, headerRules}
+use Rattle.format.specs.Part.{cutRules, lengthOf}
+use Rattle.format.specs.declared.frame.FrameHeader.{FrameHeader}
+use Rattle.format.proofs.Headers.{passes}
+use Rattle.file.specs.Whole.{frameRules, inOrder, otherRules, sameRules}
+use Rattle.file.specs.Streaming.{freeRules}
+use Rattle.file.proofs.Places.{header-here}
+use Rattle.survey.specs.Parts.{readerFor, rulesFor, sooner}
 use Rattle.survey.specs.declared.First.{First}
 use Rattle.survey.specs.declared.Kind.{Kind}
 use Rattle.survey.specs.declared.Kind.the-variants.{Any, Like}

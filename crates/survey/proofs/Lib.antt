@@ -1,4 +1,3 @@
 -- Laws for the crates above.
 pub mod Walking
 pub mod FrameKinds
-pub mod Answers

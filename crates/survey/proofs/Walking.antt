@@ -11,24 +11,24 @@ use borrow.Author.Tests.{le-ltb, lt-ltb}
 use lib.Dec.{ltb}
 use lib.ListN.{length, drop, length-append, length-drop}
 use lib.Seq.{drop-drop}
-use Rattle.word.specs.Rules.{Answer, firstOf, good, refused, _gives_, _then_}
-use Rattle.word.proofs.Rules.{fires, none-fires}
+use Rattle.refusal.specs.Rules.{Answer, firstOf, good, refused, _gives_, _then_}
+use Rattle.refusal.proofs.Rules.{fires, none-fires}
 use Rattle.word.proofs.Tests.{tests}
-use Rattle.header.specs.Header.{headerAt}
-use Rattle.header.specs.Part.{lengthOf}
-use Rattle.header.specs.declared.frame.FrameHeader.{FrameHeader}
-use Rattle.format.specs.Frame.{countOf, frameSamples}
-use Rattle.format.specs.Walk.{Reader, Walk, afterFrame, frameAt, samplesOf, walkOf, withFrame}
-use Rattle.format.proofs.Walks.{walk-step}
-use Rattle.format.proofs.Needs.{frame-need}
-use Rattle.format.proofs.Frames.{header-at}
-use Rattle.format.proofs.Places.{header-here}
-use Rattle.survey.specs.Survey.{fitAfter, fits}
+use Rattle.format.specs.Header.{headerAt}
+use Rattle.format.specs.Part.{lengthOf}
+use Rattle.format.specs.declared.frame.FrameHeader.{FrameHeader}
+use Rattle.file.specs.Frame.{countOf, frameSamples}
+use Rattle.file.specs.Walk.{WalkRules, Walk, pastFrame, frameAt, samplesOf, walkOf, withFrame}
+use Rattle.file.proofs.Walks.{walk-step}
+use Rattle.file.proofs.Needs.{frame-need}
+use Rattle.file.proofs.Frames.{header-at}
+use Rattle.file.proofs.Places.{header-here}
+use Rattle.survey.specs.Parts.{fitAfter, fits}
 
 -- ---- the walk
 
-module _ (R : Reader) (b : List ℕ) where
-  pub walk-on : 8 ≤ length b → firstOf (R .frame b) ≡ none → walkOf R b ≡ (walkOf R (afterFrame b) then withFrame (frameAt b))
+module _ (R : WalkRules) (b : List ℕ) where
+  pub walk-on : 8 ≤ length b → firstOf (R .frame b) ≡ none → walkOf R b ≡ (walkOf R (pastFrame b) then withFrame (frameAt b))
   walk-on long passed = walk-step R b ∙ rw (le-ltb (length b) 8 long, passed)
 
   pub walk-refused : 8 ≤ length b → (n : ℕ) → firstOf (R .frame b) ≡ some n → walkOf R b ≡ refused n
@@ -61,7 +61,7 @@ fits-capped room n k =
 -- ---- a turn
 
 -- the frame at the start of b is counted
-module _ (R : Reader) (room before : ℕ) (b : List ℕ) (whole : lengthOf (headerAt b 0) ≤ length b) where
+module _ (R : WalkRules) (room before : ℕ) (b : List ℕ) (whole : lengthOf (headerAt b 0) ≤ length b) where
   counted : (a : Answer Walk)
       → (a then withFrame (frameAt b) then λ w. fits room (before + length (samplesOf (w .frames))))
       ≡ (a then λ w. fits room (min (before + countOf (headerAt b 0)) (room + 1) + length (samplesOf (w .frames))))
@@ -75,18 +75,18 @@ module _ (R : Reader) (room before : ℕ) (b : List ℕ) (whole : lengthOf (head
       ap (fits room) sum ∙ sym (fits-capped room (before + countOf (headerAt b 0)) rest)
 
   pub one-frame : 8 ≤ length b → firstOf (R .frame b) ≡ none
-      → fitAfter R room before b ≡ fitAfter R room (min (before + countOf (headerAt b 0)) (room + 1)) (afterFrame b)
+      → fitAfter R room before b ≡ fitAfter R room (min (before + countOf (headerAt b 0)) (room + 1)) (pastFrame b)
   unfolding fitAfter
   one-frame long passed =
       ap (λ (a : Answer Walk). a then λ w. fits room (before + length (samplesOf (w .frames)))) (walk-on R b long passed)
-      ∙ counted (walkOf R (afterFrame b))
+      ∙ counted (walkOf R (pastFrame b))
 
 -- what follows the frame at a place
-pub after-here : (s : List ℕ) (at : ℕ) (h : FrameHeader) → headerAt s at ≡ h → afterFrame (drop at s) ≡ drop (at + lengthOf h) s
+pub after-here : (s : List ℕ) (at : ℕ) (h : FrameHeader) → headerAt s at ≡ h → pastFrame (drop at s) ≡ drop (at + lengthOf h) s
 after-here s at h e =
     ap (λ (z : FrameHeader). drop (lengthOf z) (drop at s)) (header-here s at ∙ e) ∙ drop-drop (lengthOf h) at s
 
-module _ (R : Reader) (room before : ℕ) (s : List ℕ) (at : ℕ) where
+module _ (R : WalkRules) (room before : ℕ) (s : List ℕ) (at : ℕ) where
   pub turn : (h : FrameHeader) → headerAt s at ≡ h → 8 ≤ length s - at → lengthOf h ≤ length s - at → firstOf (R .frame (drop at s)) ≡ none
       → fitAfter R room before (drop at s) ≡ fitAfter R room (min (before + countOf h) (room + 1)) (drop (at + lengthOf h) s)
   turn h e long whole passed =

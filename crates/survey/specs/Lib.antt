@@ -1,3 +1,2 @@
 -- What the contracts cite: the calls' first, then those of their parts.
-pub mod Told
-pub mod Survey
+pub mod Parts

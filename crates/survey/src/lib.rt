@@ -2,23 +2,17 @@
 ghost use mathlib.Core.Path.{_≡_};
 ghost use Prim.Native.Nat.{_+_, _*_, _^_, _≤_, _<_, min};
 ghost use lib.ListN.{length, drop};
-ghost use Rattle.word.specs.Rules.{firstOf};
-ghost use Rattle.header.specs.Refusals.{toldChecked};
-ghost use Rattle.header.specs.Part.{cutRules};
-ghost use Rattle.format.specs.Reader.{otherRules, sameRules, tailRules};
-ghost use Rattle.format.specs.Streaming.{noTail};
-ghost use Rattle.survey.specs.Told.{toldFrames};
-ghost use Rattle.survey.specs.Survey.{fitAfter, fits, readerFor, rulesFor, sooner};
-use header::frame::FrameHeader;
-use header::frame::QOA_HEADER_SIZE;
-use header::refusal::Checked;
-use header::refusal::Refusal;
-
-// How many samples there are, over all frames.
-pub enum FramesAnswer {
-    Count(usize),
-    Refused(Refusal),
-}
+ghost use Rattle.refusal.specs.Rules.{firstOf};
+ghost use Rattle.refusal.specs.Refusals.{toldChecked, toldCount};
+ghost use Rattle.format.specs.Part.{cutRules};
+ghost use Rattle.file.specs.Whole.{otherRules, sameRules, tailRules};
+ghost use Rattle.file.specs.Streaming.{noTail};
+ghost use Rattle.survey.specs.Parts.{fitAfter, fits, readerFor, rulesFor, sooner};
+use format::frame::FrameHeader;
+use format::frame::QOA_HEADER_SIZE;
+use refusal::Checked;
+use refusal::CountAnswer;
+use refusal::Refusal;
 
 // The most bytes that a file may have after its last frame.
 const MOST_TAIL: usize = 7;
@@ -75,9 +69,9 @@ fn check_other(h: FrameHeader, left: usize, first: First) -> Checked
     ensures { λ r. ⌜ toldChecked r ≡ firstOf (otherRules (first .fixed) (first .channels) (first .rate) h left) ⌝ }
 {
     let same = check_same(h, first);
-    let state = check_cut(header::state_end(h.channels as usize), left);
+    let state = check_cut(format::state_end(h.channels as usize), left);
     let whole = check_cut(
-        header::frame_length(h.channels as usize, h.samples as usize),
+        format::frame_length(h.channels as usize, h.samples as usize),
         left,
     );
     if first.fixed {
@@ -90,11 +84,11 @@ fn check_other(h: FrameHeader, left: usize, first: First) -> Checked
 pub fn check_frame(h: FrameHeader, left: usize, kind: Kind) -> Checked
     ensures { λ r. ⌜ toldChecked r ≡ firstOf (rulesFor kind h left) ⌝ }
 {
-    let head = header::check_header(h);
+    let head = format::check_header(h);
     match kind {
         Kind::Any => {
             let whole = check_cut(
-                header::frame_length(h.channels as usize, h.samples as usize),
+                format::frame_length(h.channels as usize, h.samples as usize),
                 left,
             );
             first_of(head, whole)
@@ -155,33 +149,33 @@ fn add_capped(a: usize, b: usize, room: usize) -> usize
 }
 
 // So many samples, where there is room for them.
-fn fit_count(need: usize, room: usize) -> FramesAnswer
-    ensures { λ r. ⌜ toldFrames r ≡ fits room need ⌝ }
+fn fit_count(need: usize, room: usize) -> CountAnswer
+    ensures { λ r. ⌜ toldCount r ≡ fits room need ⌝ }
 {
     if room < need {
-        return FramesAnswer::Refused(Refusal::OutputTooSmall);
+        return CountAnswer::Refused(Refusal::OutputTooSmall);
     }
-    FramesAnswer::Count(need)
+    CountAnswer::Count(need)
 }
 
 // All frames of a kind from a place on.
-pub fn walk_frames(bytes: &[u8], start: usize, kind: Kind, room: usize) -> FramesAnswer
+pub fn walk_frames(bytes: &[u8], start: usize, kind: Kind, room: usize) -> CountAnswer
     requires { ⌜ (start ≤ length (now bytes)) × (room < 2 ^ 63) ⌝ }
-    ensures { λ r. ⌜ toldFrames r ≡ fitAfter (readerFor kind) room 0 (drop start (now (bytes .entry))) ⌝ }
+    ensures { λ r. ⌜ toldCount r ≡ fitAfter (readerFor kind) room 0 (drop start (now (bytes .entry))) ⌝ }
 {
     let mut at = start;
     let mut need: usize = 0;
     while QOA_HEADER_SIZE <= bytes.len() - at {
-        let h = header::read_header(bytes, at);
+        let h = format::read_header(bytes, at);
         let checked = check_frame(h, bytes.len() - at, kind);
         if let Checked::Refused(r) = checked {
-            return FramesAnswer::Refused(r);
+            return CountAnswer::Refused(r);
         }
         need = add_capped(need, sample_count(h), room);
-        at = at + header::frame_length(h.channels as usize, h.samples as usize);
+        at = at + format::frame_length(h.channels as usize, h.samples as usize);
     }
     match check_end(bytes.len() - at, kind) {
         Checked::Passed => fit_count(need, room),
-        Checked::Refused(r) => FramesAnswer::Refused(r),
+        Checked::Refused(r) => CountAnswer::Refused(r),
     }
 }

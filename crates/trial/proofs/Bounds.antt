@@ -8,12 +8,13 @@ use lib.IntN.{ℤ, natAbs, pos, _-ℤ_}
 use mir.Syntax.{w16}
 use mir.Val.{SFits}
 use Rattle.wrap.proofs.Integers.{abs-fits, abs-sub}
-use Rattle.lms.specs.Predictor.{at, costOf, penaltyOf, updated, HistoryFits, WeightsWithin}
+use Rattle.lms.specs.Predictor.{at, costOf, penaltyOf, updated}
 use Rattle.lms.specs.declared.QoaLms.{QoaLms}
 use Rattle.lms.proofs.Bounds.{clamp16-fits, penalty-small, update-fits, update-within}
 use Rattle.scale.specs.Tables.{rowOf}
 use Rattle.scale.proofs.Bounds.{code-lt, row-small}
 use Rattle.trial.specs.Trial.{codeTried, heard, sampleOf, sumTried, tried, valueTried}
+use Rattle.lms.specs.Parts.{HistoryFits, WeightsWithin}
 
 -- ---- what is heard
 

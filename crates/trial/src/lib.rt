@@ -3,10 +3,11 @@ use lms::QoaLms;
 ghost use mathlib.Core.Path.{_≡_};
 ghost use Prim.Native.Nat.{_≤_, _<_, _^_};
 ghost use lib.IntN.{natAbs, _-ℤ_};
-ghost use Rattle.lms.specs.Predictor.{predicted, WeightsWithin};
-ghost use Rattle.scale.specs.Quick.{quickCodes, quickRow};
+ghost use Rattle.lms.specs.Predictor.{predicted};
+ghost use Rattle.scale.specs.Parts.{quickCodes, quickRow};
 ghost use Rattle.scale.specs.Tables.{reciprocalTab, rowOf};
 ghost use Rattle.trial.specs.Trial.{codeTried, heard, tried, valueTried};
+ghost use Rattle.lms.specs.Parts.{WeightsWithin};
 
 // A sample that is heard, with the predictor after it.
 pub struct Heard {

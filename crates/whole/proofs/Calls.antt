@@ -10,20 +10,20 @@ use native.Mathlib.Omega.{arith}
 use lib.IntN.{ℤ}
 use lib.ListN.{length, drop, length-append}
 use lib.Seq.{drop-at}
-use Rattle.word.specs.Rules.{Answer, firstOf, good, refused, unless, _then_}
-use Rattle.word.proofs.Rules.{fires, good-same, never, none-fires, then-good, then-refused}
+use Rattle.refusal.specs.Rules.{Answer, firstOf, good, refused, unless, _then_}
+use Rattle.refusal.proofs.Rules.{fires, good-same, never, none-fires, then-good, then-refused}
 use Rattle.word.proofs.Tests.{notn, tests}
-use Rattle.header.specs.Grammar.{Each, IsFrame, joined, tailOk}
-use Rattle.format.specs.Walk.{Walk, roomRules, samplesOf, walkOf}
-use Rattle.format.specs.Reader.{Audio, audioIn, audioOf, decode}
-use Rattle.format.specs.Streaming.{IsFree, fitting, freeFrames, samplesIn, streamed}
-use Rattle.format.proofs.Decoded.{holds}
-use Rattle.format.proofs.Frames.{tail-short}
-use Rattle.format.proofs.Streamed.{streamed-is}
+use Rattle.format.specs.Grammar.{Each, IsFrame, joined, tailOk}
+use Rattle.file.specs.Walk.{Walk, roomRules, samplesOf, walkOf}
+use Rattle.file.specs.Whole.{Audio, audioIn, audioOf, decode}
+use Rattle.file.specs.Streaming.{IsFree, fitting, freeFrames, samplesIn, streamed}
+use Rattle.file.proofs.Decoded.{holds}
+use Rattle.file.proofs.Frames.{tail-short}
+use Rattle.file.proofs.Streamed.{streamed-is}
 use Rattle.whole.specs.Told.{countIn, summaryIn, summaryOf}
-use Rattle.survey.specs.Survey.{fitAfter, fits}
-use Rattle.whole.specs.Held.{HasRoom, held}
-use Rattle.whole.specs.declared.answer.Summary.{Summary}
+use Rattle.survey.specs.Parts.{fitAfter, fits}
+use Rattle.whole.specs.Parts.{HasRoom, held}
+use Rattle.refusal.specs.declared.Summary.{Summary}
 use Rattle.whole.proofs.Decoding.{joined-held}
 
 -- a refusal of what is told of a value is one of the value

@@ -8,23 +8,23 @@ use native.Mathlib.Omega.{arith}
 use lib.IntN.{ℤ}
 use lib.ListN.{length, take, drop, length-append, length-drop, take-append-drop}
 use lib.Seq.{drop-at, drop-drop, length-take-le, take-at}
-use Rattle.word.specs.Rules.{Answer, firstOf, good, refused, _then_}
-use Rattle.word.proofs.Rules.{Quiet, none-fires}
+use Rattle.refusal.specs.Rules.{Answer, firstOf, good, refused, _then_}
+use Rattle.refusal.proofs.Rules.{Quiet, none-fires}
 use Rattle.word.proofs.Tests.{tests}
-use Rattle.header.specs.Format.{maxChannels}
-use Rattle.header.specs.Header.{headerAt}
-use Rattle.header.specs.Part.{lengthOf}
-use Rattle.header.specs.Grammar.{Each, joined}
-use Rattle.header.specs.declared.frame.FrameHeader.{FrameHeader}
-use Rattle.format.specs.Frame.{countOf, frameSamples}
-use Rattle.format.specs.Walk.{Walk, afterFrame, frameAt, samplesOf, walkOf, withFrame}
-use Rattle.format.specs.Streaming.{IsFree, freeRules}
-use Rattle.format.proofs.Frames.{Fit, free-fit, header-at}
-use Rattle.format.proofs.Needs.{frame-need}
-use Rattle.format.proofs.Places.{header-here}
-use Rattle.format.proofs.Walks.{walks}
+use Rattle.format.specs.Format.{maxChannels}
+use Rattle.format.specs.Header.{headerAt}
+use Rattle.format.specs.Part.{lengthOf}
+use Rattle.format.specs.Grammar.{Each, joined}
+use Rattle.format.specs.declared.frame.FrameHeader.{FrameHeader}
+use Rattle.file.specs.Frame.{countOf, frameSamples}
+use Rattle.file.specs.Walk.{Walk, pastFrame, frameAt, samplesOf, walkOf, withFrame}
+use Rattle.file.specs.Streaming.{IsFree, freeRules}
+use Rattle.file.proofs.Frames.{Fit, free-fit, header-at}
+use Rattle.file.proofs.Needs.{frame-need}
+use Rattle.file.proofs.Places.{header-here}
+use Rattle.file.proofs.Walks.{walks}
 use Rattle.whole.specs.Told.{kept}
-use Rattle.whole.specs.Held.{HasRoom, held, heldFrames, keptAt, shortTail}
+use Rattle.whole.specs.Parts.{HasRoom, held, heldFrames, keptAt, shortTail}
 use Rattle.survey.specs.declared.Kind.the-variants.{Any}
 use Rattle.survey.proofs.FrameKinds.{passed}
 use Rattle.survey.proofs.Walking.{after-here, walk-ended, walk-on, walk-refused}
@@ -52,8 +52,8 @@ pub record HeldOn (b : List ℕ) (room : ℕ) : Type 0 where
   pub whole : lengthOf (headerAt b 0) ≤ length b
   pub counted : length (frameSamples (frameAt b)) ≡ countOf (headerAt b 0)
   pub fits : countOf (headerAt b 0) ≤ room
-  pub rest : HasRoom (held (afterFrame b)) (room - countOf (headerAt b 0))
-  pub same : held b ≡ withSamples (frameSamples (frameAt b)) (held (afterFrame b))
+  pub rest : HasRoom (held (pastFrame b)) (room - countOf (headerAt b 0))
+  pub same : held b ≡ withSamples (frameSamples (frameAt b)) (held (pastFrame b))
 
 -- where there is room for a frame and what follows it
 room-parts : (f : List ℤ) (a : Answer (List ℤ)) (room : ℕ) → HasRoom (withSamples f a) room → (length f ≤ room) × HasRoom a (room - length f)
@@ -78,8 +78,8 @@ module _ (b : List ℕ) where
       let p = passed Any (headerAt b 0) (length b) quiet in
       let f = frameSamples (frameAt b) in
       let count : length f ≡ countOf (headerAt b 0) = frame-need (frameAt b) ∙ ap countOf (header-at b (p .fits)) in
-      let same : held b ≡ withSamples f (held (afterFrame b)) = ap (λ (a : Answer Walk). a then λ w. good (samplesOf (w .frames))) (walk-on heldFrames b long quiet) ∙ held-then (walkOf heldFrames (afterFrame b)) in
-      let parts = room-parts f (held (afterFrame b)) room (rw same at h) in
+      let same : held b ≡ withSamples f (held (pastFrame b)) = ap (λ (a : Answer Walk). a then λ w. good (samplesOf (w .frames))) (walk-on heldFrames b long quiet) ∙ held-then (walkOf heldFrames (pastFrame b)) in
+      let parts = room-parts f (held (pastFrame b)) room (rw same at h) in
       record {
         few-channels = p .few-channels;
         whole = p .fits;

@@ -2,4 +2,3 @@
 pub mod Surveying
 pub mod Decoding
 pub mod Calls
-pub mod Answers

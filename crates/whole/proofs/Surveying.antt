@@ -8,26 +8,26 @@ use native.Mathlib.Nat.{zero-add}
 use native.Mathlib.Omega.{arith}
 use borrow.Author.Tests.{le-ltb}
 use lib.ListN.{length, take, drop, length-drop}
-use Rattle.word.specs.Rules.{Answer, firstOf, good, refused, unless, _then_}
-use Rattle.word.proofs.Rules.{fires, never, none-fires, quiet}
+use Rattle.refusal.specs.Rules.{Answer, firstOf, good, refused, unless, _then_}
+use Rattle.refusal.proofs.Rules.{fires, never, none-fires, quiet}
 use Rattle.word.proofs.Tests.{tests}
-use Rattle.header.specs.Format.{mostBytes}
-use Rattle.header.specs.FileHeader.{fileHeader, fileRules, isFixed, totalOf}
-use Rattle.header.specs.Header.{headerAt}
-use Rattle.header.specs.Part.{lengthOf}
-use Rattle.header.specs.Grammar.{Each, IsFrame, joined}
-use Rattle.header.specs.declared.frame.FrameHeader.{FrameHeader}
-use Rattle.header.proofs.FileHeaders.{file-good}
-use Rattle.format.specs.Walk.{Walk, afterFrame, frameAt, samplesOf, walkOf, withFrame}
-use Rattle.format.specs.Reader.{audioIn, audioOf, body, bodyFor, cutOf, longRules, rulesAt, someRules, wholeFile, withFirst}
-use Rattle.format.proofs.Accepted.{quiet-head}
-use Rattle.format.proofs.Frames.{header-at, starts, whole-file-fit}
-use Rattle.format.proofs.Walks.{walk-step, walked}
-use Rattle.format.proofs.Needs.{frames-need, need-small}
-use Rattle.format.proofs.Places.{header-here}
+use Rattle.format.specs.Format.{mostBytes}
+use Rattle.format.specs.FileHeader.{fileHeader, fileRules, isFixed, totalOf}
+use Rattle.format.specs.Header.{headerAt}
+use Rattle.format.specs.Part.{lengthOf}
+use Rattle.format.specs.Grammar.{Each, IsFrame, joined}
+use Rattle.format.specs.declared.frame.FrameHeader.{FrameHeader}
+use Rattle.format.proofs.FileHeaders.{file-good}
+use Rattle.file.specs.Walk.{Walk, pastFrame, frameAt, samplesOf, walkOf, withFrame}
+use Rattle.file.specs.Whole.{audioIn, audioOf, body, bodyFor, cutOf, longRules, rulesAt, someRules, wholeFile, withFirst}
+use Rattle.file.proofs.Accepted.{quiet-head}
+use Rattle.file.proofs.Frames.{header-at, starts, whole-file-fit}
+use Rattle.file.proofs.Walks.{walk-step, walked}
+use Rattle.file.proofs.Needs.{frames-need, need-small}
+use Rattle.file.proofs.Places.{header-here}
 use Rattle.whole.specs.Told.{summaryIn}
-use Rattle.survey.specs.Survey.{audioAfter, fitAfter, fits}
-use Rattle.whole.specs.declared.answer.Summary.{Summary}
+use Rattle.survey.specs.Parts.{audioAfter, fitAfter, fits}
+use Rattle.refusal.specs.declared.Summary.{Summary}
 use Rattle.survey.proofs.Walking.{fits-good, walk-on}
 
 -- ---- before the frames
@@ -81,7 +81,7 @@ module _ (fixed : Bool) (c r : ℕ) where
 
   module _ (rest : List ℕ) (few : length rest ≤ mostBytes) (long : 8 ≤ length rest) (head : List ℕ) where
     -- by the first frame's refusal, and what the walk over the others answers
-    by-first : (o : Option ℕ) (a : Answer Walk) → firstOf (rulesAt fixed c r rest) ≡ o → walkOf (wholeFile fixed c r) (afterFrame rest) ≡ a
+    by-first : (o : Option ℕ) (a : Answer Walk) → firstOf (rulesAt fixed c r rest) ≡ o → walkOf (wholeFile fixed c r) (pastFrame rest) ≡ a
         → summaryIn (unless o a then withFirst head (frameAt rest) then λ k. good (audioOf k))
         ≡ (unless o (a then withFrame (frameAt rest)) then (λ w. fits ample (0 + length (samplesOf (w .frames)))) then summary c r)
     unfolding audioOf
@@ -107,7 +107,7 @@ surveyed fixed b h e few long =
     let size = length-drop 8 b in
     let there : 8 ≤ length rest = omega arith in
     let refusal = firstOf (rulesAt fixed (h .channels) (h .rate) rest) in
-    let others = walkOf R (afterFrame rest) in
+    let others = walkOf R (pastFrame rest) in
     let same : body fixed rest ≡ bodyFor fixed (h .channels) (h .rate) rest = ap (λ (z : FrameHeader). bodyFor fixed (z .channels) (z .rate) rest) (header-here b 8 ∙ e) in
     let found : body fixed rest ≡ unless refusal others = same ∙ rw (none-fires (someRules rest) (omega (arith, tests))) in
     let walk : walkOf R rest ≡ unless refusal (others then withFrame (frameAt rest)) = walk-step R rest ∙ rw (le-ltb (length rest) 8 there) in

@@ -1,3 +1,3 @@
 -- What the contracts cite: the public calls' first, then those of their parts.
 pub mod Told
-pub mod Held
+pub mod Parts

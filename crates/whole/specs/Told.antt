@@ -3,12 +3,9 @@ use Prim.Native.Nat.{ℕ}
 use mathlib.Core.List.{List, _++_}
 use lib.IntN.{ℤ}
 use lib.ListN.{length, drop}
-use Rattle.word.specs.Rules.{Answer, good, refused, _then_}
-use Rattle.header.specs.Refusals.{numberOf}
-use Rattle.format.specs.Reader.{Audio}
-use Rattle.whole.specs.declared.answer.Summary.{Summary}
-use Rattle.whole.specs.declared.answer.DecodeAnswer as D
-use Rattle.whole.specs.declared.answer.NeedAnswer as N
+use Rattle.refusal.specs.Rules.{Answer, good, refused, _then_}
+use Rattle.file.specs.Whole.{Audio}
+use Rattle.refusal.specs.declared.Summary.{Summary}
 
 -- a file's audio, its samples counted
 abbrev pub summaryOf : Audio → Summary
@@ -22,16 +19,6 @@ heardIn answer = answer then λ a. good (a .samples)
 
 abbrev pub countIn : Answer (List ℤ) → Answer ℕ
 countIn answer = answer then λ xs. good (length xs)
-
--- ---- the answers
-
-abbrev pub toldDecoded : D.DecodeAnswer → Answer Summary
-toldDecoded (D.the-variants.Decoded s) = good s
-toldDecoded (D.the-variants.Refused r) = refused (numberOf r)
-
-abbrev pub toldNeed : N.NeedAnswer → Answer Summary
-toldNeed (N.the-variants.Need s) = good s
-toldNeed (N.the-variants.Refused r) = refused (numberOf r)
 
 -- ---- the lent memory
 

@@ -4,16 +4,16 @@ ghost use mathlib.Core.List.{_++_};
 ghost use Prim.Native.Nat.{_+_, _*_, _≤_};
 ghost use lib.ListN.{length, take, drop};
 ghost use Rattle.scale.specs.Tables.{dequantTab};
-ghost use Rattle.header.specs.Format.{maxChannels};
-ghost use Rattle.header.specs.Header.{headerAt};
-ghost use Rattle.header.specs.Part.{lengthOf};
-ghost use Rattle.format.specs.Frame.{frameSamples};
-ghost use Rattle.format.specs.Walk.{frameAt};
+ghost use Rattle.format.specs.Format.{maxChannels};
+ghost use Rattle.format.specs.Header.{headerAt};
+ghost use Rattle.format.specs.Part.{lengthOf};
+ghost use Rattle.file.specs.Frame.{frameSamples};
+ghost use Rattle.file.specs.Walk.{frameAt};
 ghost use Rattle.whole.specs.Told.{kept};
-ghost use Rattle.whole.specs.Held.{HasRoom, held};
-use header::frame::FrameHeader;
-use header::frame::QOA_HEADER_SIZE;
-use header::frame::QOA_MAX_CHANNELS;
+ghost use Rattle.whole.specs.Parts.{HasRoom, held};
+use format::frame::FrameHeader;
+use format::frame::QOA_HEADER_SIZE;
+use format::frame::QOA_MAX_CHANNELS;
 use survey::sample_count;
 
 // The frame at a place, its samples stored from `start` on.
@@ -34,7 +34,7 @@ fn decode_frame(
     let samples = h.samples as usize;
     let unread = [lms::new_lms(); QOA_MAX_CHANNELS];
     let states = predictors::read_states(bytes, at + QOA_HEADER_SIZE, channels, unread);
-    let place = at + header::state_end(channels);
+    let place = at + format::state_end(channels);
     groups::decode_groups(tab, states, bytes, place, channels, samples, out, start);
 }
 
@@ -47,9 +47,9 @@ pub fn decode_held(bytes: &[u8], first: usize, out: &mut [i16])
     let mut at = first;
     let mut done: usize = 0;
     while QOA_HEADER_SIZE <= bytes.len() - at {
-        let h = header::read_header(bytes, at);
+        let h = format::read_header(bytes, at);
         decode_frame(&tab, bytes, at, h, out, done);
         done = done + sample_count(h);
-        at = at + header::frame_length(h.channels as usize, h.samples as usize);
+        at = at + format::frame_length(h.channels as usize, h.samples as usize);
     }
 }

@@ -1,10 +1,10 @@
 -- Laws for the crates above.
 pub mod Push
+pub mod Belows
 pub mod Tables
 pub mod Writes
 pub mod BytesLaws
 pub mod LittleLaws
 pub mod Fields
 pub mod Words
-pub mod Rules
 pub mod Tests

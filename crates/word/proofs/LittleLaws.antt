@@ -14,7 +14,7 @@ use mir.Syntax.{w16}
 use mir.Val.{SFits}
 use Rattle.wrap.specs.Wrap.{low16}
 use Rattle.wrap.proofs.Patterns.{read-low}
-use Rattle.word.specs.Little.{le, leBytes, lowByte, putLow, sampleAt}
+use Rattle.word.specs.Little.{le, leBytes, lowByte, putLow, leSample}
 use Rattle.word.proofs.Writes.{written-at}
 
 -- ---- numbers
@@ -109,8 +109,8 @@ byte-high (x ∷ xs) (suc i) h =
     rw place (byte-high xs i (le-of-suc-le-suc h))
 
 -- the samples that were stored are those that are read
-pub sample-back : (xs : List ℤ) (i : ℕ) → i < length xs → SFits w16 (getD xs i (pos 0)) → sampleAt (leBytes xs) (i * 2) ≡ getD xs i (pos 0)
-unfolding sampleAt le
+pub sample-back : (xs : List ℤ) (i : ℕ) → i < length xs → SFits w16 (getD xs i (pos 0)) → leSample (leBytes xs) (i * 2) ≡ getD xs i (pos 0)
+unfolding leSample le
 sample-back xs i h short =
     let x = getD xs i (pos 0) in
     let number : low16 x % 256 + 256 * (low16 x / 256 + 256 * 0) ≡ low16 x = omega arith in

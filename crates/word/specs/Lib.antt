@@ -1,6 +1,7 @@
 -- What the contracts cite.
+pub mod Below
 pub mod Written
 pub mod Bytes
 pub mod Little
 pub mod Word
-pub mod Rules
+pub mod Parts

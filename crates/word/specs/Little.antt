@@ -27,5 +27,5 @@ leBytes [] = []
 leBytes (x ∷ xs) = low16 x % 256 ∷ low16 x / 256 ∷ leBytes xs
 
 -- the sample whose bytes stand at a place
-unfoldable pub sampleAt : List ℕ → ℕ → ℤ
-sampleAt bs p = toZ w16 (le 2 bs p)
+unfoldable pub leSample : List ℕ → ℕ → ℤ
+leSample bs p = toZ w16 (le 2 bs p)

@@ -12,8 +12,3 @@ table (suc n) f = f 0 ∷ table n (λ i. f (suc i))
 unfoldable pub written : {A : Type 0} → (ℕ → A) → List A → ℕ → ℕ → ℕ → List A
 written f out start stride zero = out
 written f out start stride (suc n) = set (written f out start stride n) (start + n * stride) (f n)
-
--- the same for several channels, interleaved: n values of each of the first c channels, each of its own function
-unfoldable pub interleaved : {A : Type 0} → (ℕ → ℕ → A) → List A → ℕ → ℕ → ℕ → ℕ → List A
-interleaved f out start channels n zero = out
-interleaved f out start channels n (suc c) = written (f c) (interleaved f out start channels n c) (start + c) channels n

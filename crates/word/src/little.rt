@@ -3,7 +3,7 @@ ghost use mathlib.Core.Path.{_≡_};
 ghost use mathlib.Core.List.{_++_};
 ghost use Prim.Native.Nat.{_+_, _*_, _^_, _≤_, _<_};
 ghost use lib.ListN.{length, take, drop};
-ghost use Rattle.word.specs.Little.{le, leBytes, putLow, sampleAt};
+ghost use Rattle.word.specs.Little.{le, leBytes, putLow, leSample};
 ghost use Rattle.word.specs.Written.{written};
 use crate::push_byte;
 
@@ -77,7 +77,7 @@ pub fn put_samples(block: &[i16], n: usize, out: &mut [u8])
 // The samples that bytes say, as many as there are places.
 pub fn read_samples(bytes: &[u8], out: &mut [i16])
     requires { ⌜ length (now out) * 2 ≤ length (now bytes) ⌝ }
-    ensures { λ _. ⌜ now (out .exit) ≡ written (λ i. sampleAt (now (bytes .entry)) (i * 2)) (now (out .entry)) 0 1 (length (now (out .entry))) ⌝ }
+    ensures { λ _. ⌜ now (out .exit) ≡ written (λ i. leSample (now (bytes .entry)) (i * 2)) (now (out .entry)) 0 1 (length (now (out .entry))) ⌝ }
 {
     for i in 0..out.len() {
         let x = wrap::signed16(read_u16(bytes, i * 2));

@@ -3,7 +3,7 @@
 use mathlib.Core.Path.{ap, _∙_}
 use lib.IntN.{ℤ}
 use mir.Facts.{toZ-ofZ}
-use Rattle.ahead.specs.Loop.{aheadOf, movedBy}
+use Rattle.ahead.specs.Parts.{aheadOf, movedBy}
 use Rattle.ahead.proofs.advance.Statement.{statement}
 use Rattle.ahead.proofs.advance.Tie as tie
 

@@ -10,11 +10,12 @@ use mir.Facts.{toZ-ofZ}
 use Rattle.wrap.specs.Wrap.{wrap32}
 use Rattle.wrap.proofs.Elements.{element-field}
 use Rattle.wrap.proofs.Integers.{fits-of, shift-back}
-use Rattle.ahead.specs.Loop.{aheadOf}
-use Rattle.lms.specs.Predictor.{at, dot, olderDot, predicted}
+use Rattle.ahead.specs.Parts.{aheadOf}
+use Rattle.lms.specs.Predictor.{at, dot, predicted}
 use Rattle.ahead.specs.declared.Ahead.{Ahead}
 use borrow.Author.Needs.{needs}
 use Rattle.ahead.proofs.expect.Statement.{statement}
+use Rattle.lms.specs.Parts.{olderDot}
 use Rattle.ahead.proofs.expect.Tie as tie
 
 array-copy-out-add-newest : tie.Need-array-copy-out-add-newest

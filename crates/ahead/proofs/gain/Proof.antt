@@ -12,7 +12,7 @@ use mir.Facts.{toZ-ofZ}
 use mir.Syntax.{w32}
 use Rattle.wrap.proofs.Elements.{element}
 use Rattle.wrap.proofs.Integers.{abs-add, fits-abs, reread}
-use Rattle.ahead.specs.Loop.{gained, sideOf}
+use Rattle.ahead.specs.Parts.{gained, sideOf}
 use Rattle.lms.specs.Predictor.{at}
 use borrow.Author.Needs.{needs}
 use Rattle.ahead.proofs.gain.Statement.{statement}

@@ -10,7 +10,7 @@ use Rattle.wrap.proofs.Integers.{fits-of, reread}
 use Prim.Native.Nat.{ℕ, _≤_, _<_, _^_}
 use mir.Syntax.{w32}
 use mir.Val.{SFits}
-use Rattle.ahead.specs.Loop.{gained, movedBy}
+use Rattle.ahead.specs.Parts.{gained, movedBy}
 use Rattle.lms.specs.Predictor.{at}
 use Rattle.wrap.proofs.Elements.{element-field}
 use Rattle.ahead.proofs.moved_by.Statement.{statement}

@@ -1,7 +1,7 @@
 -- `ahead::ready` meets its contract, by that of `older_dot`.
 -- Assumes nothing.
 use borrow.Author.Needs.{needs}
-use Rattle.ahead.specs.Loop.{aheadOf}
+use Rattle.ahead.specs.Parts.{aheadOf}
 use Rattle.ahead.proofs.ready.Statement.{statement}
 use Rattle.ahead.proofs.ready.Tie as tie
 

@@ -13,7 +13,7 @@ use Rattle.word.specs.Written.{written}
 use Rattle.word.proofs.BytesLaws.{length-bytes}
 use Rattle.word.proofs.Writes.{written-other}
 use Rattle.lms.specs.declared.QoaLms.{QoaLms}
-use Rattle.header.specs.Predictor.{lmsOf, noLms}
+use Rattle.format.specs.Predictor.{lmsOf, noLms}
 use Rattle.search.specs.Search.{encodedSlice, strided}
 use Rattle.search.specs.declared.Encoded.{Encoded}
 use Rattle.body.specs.Laid.{laid, overlaid}

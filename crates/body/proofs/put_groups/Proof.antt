@@ -13,8 +13,8 @@ use Rattle.word.specs.Bytes.{bytesOf}
 use Rattle.word.proofs.Writes.{length-written}
 use Rattle.lms.specs.declared.QoaLms.{QoaLms}
 use Rattle.lms.proofs.Bounds.{within-more}
-use Rattle.header.specs.Format.{slicesOf}
-use Rattle.header.specs.Predictor.{lmsOf, noLms}
+use Rattle.format.specs.Format.{slicesOf}
+use Rattle.format.specs.Predictor.{lmsOf, noLms}
 use Rattle.search.specs.Search.{strided}
 use Rattle.search.proofs.Fitting.{strided-length}
 use Rattle.body.specs.Channel.{lmsBefore, sliceWord}

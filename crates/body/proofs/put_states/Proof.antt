@@ -6,7 +6,7 @@ use native.Mathlib.Omega.{arith}
 use lib.ListN.{length}
 use mathlib.Core.List.{List}
 use Rattle.lms.specs.declared.QoaLms.{QoaLms}
-use Rattle.header.specs.Predictor.{lmsOf}
+use Rattle.format.specs.Predictor.{lmsOf}
 use Rattle.body.specs.Laid.{laid, lmsBytes, overlaid}
 use Rattle.body.proofs.Laids.{length-blocks, length-lms, next-block, over-lms}
 use Rattle.body.proofs.Overlays.{over-nil}

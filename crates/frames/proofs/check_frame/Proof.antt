@@ -2,9 +2,9 @@
 use mathlib.Core.Path.{_≡_, ap, sym, _∙_}
 use mathlib.Core.Option.{none}
 use native.Mathlib.Omega.{arith}
-use Rattle.word.specs.Rules.{firstOf}
-use Rattle.header.specs.Header.{headerRules}
-use Rattle.header.specs.Refusals.{toldChecked}
+use Rattle.refusal.specs.Rules.{firstOf}
+use Rattle.format.specs.Header.{headerRules}
+use Rattle.refusal.specs.Refusals.{toldChecked}
 use Rattle.frames.specs.Frames.{modeRules}
 use Rattle.frames.proofs.FrameLaws.{frame-by-header, frame-by-mode, frame-cut, frame-whole}
 use borrow.Author.Needs.{needs}

@@ -2,8 +2,8 @@
 use mathlib.Core.Path.{_≡_, ap, sym, _∙_}
 use mathlib.Core.Option.{Option}
 use Prim.Native.Nat.{ℕ}
-use Rattle.word.specs.Rules.{firstOf}
-use Rattle.header.specs.declared.frame.FrameHeader.{FrameHeader}
+use Rattle.refusal.specs.Rules.{firstOf}
+use Rattle.format.specs.declared.frame.FrameHeader.{FrameHeader}
 use Rattle.state.specs.declared.ProcessingMode.{ProcessingMode}
 use Rattle.frames.specs.Frames.{modeRules}
 use Rattle.frames.proofs.FrameLaws.{mode-channels, mode-rate, mode-same, mode-streaming}

@@ -3,7 +3,7 @@ use mathlib.Core.Path.{_≡_, ap}
 use Prim.Native.Nat.{ℕ, _+_, _*_, _≤_}
 use native.Mathlib.Omega.{arith}
 use lib.ListN.{length}
-use Rattle.header.specs.Format.{maxChannels}
+use Rattle.format.specs.Format.{maxChannels}
 use Rattle.state.specs.View.{view}
 use Rattle.into.proofs.Counts.{slices-most}
 use Rattle.frames.proofs.FrameLaws.{view-dropped}

@@ -2,10 +2,10 @@
 use mathlib.Core.Path.{_≡_, refl, ap, sym, _∙_}
 use mathlib.Core.Option.{none}
 use native.Mathlib.Omega.{arith}
-use Rattle.word.specs.Rules.{firstOf}
-use Rattle.header.specs.Header.{headerAt, leftAt}
-use Rattle.header.specs.Refusals.{toldChecked}
-use Rattle.header.specs.declared.frame.FrameHeader.{FrameHeader}
+use Rattle.refusal.specs.Rules.{firstOf}
+use Rattle.format.specs.Header.{headerAt, leftAt}
+use Rattle.refusal.specs.Refusals.{toldChecked}
+use Rattle.format.specs.declared.frame.FrameHeader.{FrameHeader}
 use Rattle.state.specs.View.{factsIn}
 use Rattle.frames.specs.Frames.{frameRules}
 use Rattle.frames.specs.declared.FrameAnswer.the-variants.{Frame}

@@ -2,7 +2,7 @@
 use mathlib.Core.Path.{_≡_}
 use native.Mathlib.Omega.{arith}
 use lib.ListN.{length}
-use Rattle.header.specs.Format.{maxChannels, stateEnd}
+use Rattle.format.specs.Format.{maxChannels, stateEnd}
 use Rattle.frames.proofs.FrameLaws.{view-started}
 use Rattle.into.proofs.Sound.{length-mapped}
 use borrow.Author.Needs.{needs}

@@ -10,7 +10,7 @@ use Rattle.word.specs.Bytes.{be64}
 use Rattle.word.specs.Written.{written}
 use Rattle.word.proofs.Writes.{length-written}
 use Rattle.lms.proofs.Bounds.{within-more}
-use Rattle.header.specs.Format.{slicesOf}
+use Rattle.format.specs.Format.{slicesOf}
 use Rattle.groups.specs.Channel.{channelAt, runAfter}
 use Rattle.groups.proofs.Growth.{run-within}
 use Rattle.groups.proofs.Runs.{channel-stored}

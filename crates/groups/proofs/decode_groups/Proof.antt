@@ -7,22 +7,23 @@ use native.Mathlib.Numerals.{add-one}
 use native.Mathlib.Omega.{arith}
 use lib.Arith.{digits-lt}
 use lib.ListN.{length}
-use Rattle.word.specs.Written.{interleaved, written}
+use Rattle.word.specs.Written.{written}
 use Rattle.word.proofs.Writes.{length-interleaved, written-other}
-use Rattle.header.specs.Format.{slicesOf}
-use Rattle.header.specs.Predictor.{lmsOf, noLms}
+use Rattle.format.specs.Format.{slicesOf}
+use Rattle.format.specs.Predictor.{lmsOf, noLms}
 use Rattle.groups.specs.Channel.{channelAt, runAfter}
-use Rattle.groups.specs.Groups.{groupsStates, sliceWord}
+use Rattle.groups.specs.Groups.{groupsStates, wordAt}
 use Rattle.groups.proofs.GroupLaws.{groups-flat, words-at}
 use Rattle.groups.proofs.Parts.{word-room}
 use Rattle.groups.proofs.decode_groups.Statement.{statement}
+use Rattle.word.specs.Parts.{interleaved}
 use Rattle.groups.proofs.decode_groups.Tie as tie
 
 abbrev Inv-loop : tie.InvT-loop
 Inv-loop tab bytes at channels samples out₀ start next₀ j₀ out next j =
     (j ≤ channels)
-    × (next ≡ written (λ k. runAfter (sliceWord bytes at channels k) (lmsOf next₀ k) (slicesOf samples)) next₀ 0 1 j)
-    × (out ≡ interleaved (λ k. channelAt (sliceWord bytes at channels k) (lmsOf next₀ k)) out₀ start channels samples j)
+    × (next ≡ written (λ k. runAfter (wordAt bytes at channels k) (lmsOf next₀ k) (slicesOf samples)) next₀ 0 1 j)
+    × (out ≡ interleaved (λ k. channelAt (wordAt bytes at channels k) (lmsOf next₀ k)) out₀ start channels samples j)
 
 abbrev μ-loop : tie.MeasureT-loop
 μ-loop tab bytes at channels samples out₀ start next₀ j₀ out next j = channels - j

@@ -7,7 +7,7 @@ use native.Mathlib.Omega.{arith}
 use borrow.Author.Needs.{needs}
 use borrow.Author.Tests.{not-false, not-true}
 use lib.ListN.{length}
-use Rattle.header.specs.Format.{maxChannels}
+use Rattle.format.specs.Format.{maxChannels}
 use Rattle.state.specs.View.{total, view}
 use Rattle.state.specs.States.{goodState}
 use Rattle.into.specs.Into.{groupsFor}

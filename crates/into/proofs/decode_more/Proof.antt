@@ -12,7 +12,7 @@ use Rattle.word.specs.Written.{written}
 use Rattle.word.proofs.Writes.{length-written}
 use Rattle.lms.specs.declared.QoaLms.{QoaLms}
 use Rattle.lms.proofs.Bounds.{within-more}
-use Rattle.header.specs.Format.{maxChannels, slicesOf}
+use Rattle.format.specs.Format.{maxChannels, slicesOf}
 use Rattle.groups.specs.Groups.{groupsAt, groupsStates}
 use Rattle.state.specs.View.{view}
 use Rattle.into.specs.Into.{groupsFor}

@@ -8,7 +8,7 @@ use Rattle.state.specs.Facts.{factsAnswer}
 use Rattle.state.specs.View.{View, view}
 use Rattle.block.specs.DecoderBlock.{decoderIn}
 use Rattle.block.specs.Parts.{readableDecoder}
-use Rattle.linked_decoder.specs.Linked.{factsIn}
+use Rattle.linked_decoder.specs.Linked.{factsOn}
 use Rattle.linked_decoder.proofs.Linking.{read-rules, unread}
 use Rattle.linked_decoder.proofs.facts_in.Statement.{statement}
 use Rattle.linked_decoder.proofs.facts_in.Tie as tie
@@ -24,7 +24,7 @@ read-decoder-requires : tie.Need-read-decoder-requires
 read-decoder-requires c κs = search needs
 
 returns : tie.Need-returns
-unfolding factsIn
+unfolding factsOn
 returns c =
     let args = c .before .before .before .before .before .args in
     rw (unread (args .state .now) (length (args .bytes .now)) _ (sym (c .before .before .read-decoder .ensures .readable) ∙ not-true _ (c .if1 .taken)))
@@ -33,7 +33,7 @@ facts-given-requires : tie.Need-facts-given-requires
 facts-given-requires c κs = search needs
 
 returns-2 : tie.Need-returns-2
-unfolding factsIn factsAnswer
+unfolding factsOn factsAnswer
 returns-2 c =
     let args = c .before .before .before .before .before .before .before .args in
     c .facts-given .ensures ∙ ap (λ (v : View). factsAnswer v (length (args .bytes .now))) (viewed (c .before .before)) ∙ sym (rw (read-rules (args .state .now) _ (yes (c .before .before))))

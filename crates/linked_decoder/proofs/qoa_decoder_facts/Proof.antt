@@ -4,7 +4,7 @@ use native.Mathlib.Omega.{arith}
 use mathlib.Core.Path.{_≡_, refl, sym, ap, _∙_}
 use mir.Syntax.{w64}
 use Rattle.wrap.proofs.Integers.{returned}
-use Rattle.header.specs.declared.facts.Facts.{Facts}
+use Rattle.format.specs.declared.facts.Facts.{Facts}
 use Rattle.state.specs.Facts.{toldFacts}
 use Rattle.encoder.specs.Calls.{onto}
 use Rattle.linked_decoder.specs.Linked.{threeFacts}

@@ -9,15 +9,16 @@ use lib.ListN.{length}
 use mir.Syntax.{w64}
 use Prim.Native.Nat.{ℕ}
 use Rattle.wrap.proofs.Integers.{returned}
-use Rattle.word.proofs.Rules.{after-refused}
+use Rattle.refusal.proofs.Rules.{after-refused}
 use Rattle.state.specs.View.{View, view}
 use Rattle.encoder.specs.Calls.{onto}
 use Rattle.block.specs.DecoderBlock.{decoderBytes, decoderIn}
 use Rattle.block.specs.Parts.{readableDecoder}
 use Rattle.block.proofs.Readable.{decoder-facts}
-use Rattle.into.specs.Into.{intoRules, toldInto}
+use Rattle.into.specs.Into.{intoRules}
 use Rattle.linked_decoder.proofs.Linking.{accepted, count-small, leaves, linked-done, linked-refused, read-rules, unread}
 use Rattle.linked_decoder.proofs.qoa_decoder_into.Statement.{statement}
+use Rattle.refusal.specs.Refusals.{toldCount}
 use Rattle.linked_decoder.proofs.qoa_decoder_into.Tie as tie
 
 -- past the test the block is readable, and its state has its view
@@ -61,7 +62,7 @@ write-decoder-requires c κs = omega (arith, decoder-facts _ (yes (c .before .be
 count-requires : tie.Need-count-requires
 count-requires c κs =
     let start = c .before .before .before .before .before .before .before .before .before .before .before .before .before .before .before .before .before .before in
-    omega (arith, start .good, count-small _ (length (start .args .out .now)) _ _ (sym (ap toldInto (c .before .before .before .before .before .before .answer2 .given .1)) ∙ c .before .before .before .before .before .before .before .before .before .decode-into .ensures .told))
+    omega (arith, start .good, count-small _ (length (start .args .out .now)) _ _ (sym (ap toldCount (c .before .before .before .before .before .before .answer2 .given .1)) ∙ c .before .before .before .before .before .before .before .before .before .decode-into .ensures .told))
 
 same-length-2 : tie.Need-same-length-2
 same-length-2 c = search needs
@@ -73,7 +74,7 @@ returns-2 : tie.Need-returns-2
 returns-2 c =
     let args = c .before .before .before .before .before .before .before .before .before .before .before .before .before .before .args in
     let done = c .before .before .before .before .before .decode-into in
-    let fired = after-refused _ _ _ (sym (done .ensures .told) ∙ ap toldInto (c .before .before .answer .given .1)) in
+    let fired = after-refused _ _ _ (sym (done .ensures .told) ∙ ap toldCount (c .before .before .answer .given .1)) in
     let same = read-rules (args .state .now) _ (yes (c .before .before .before .before .before .before .before .before)) in
     record { call = rw (← viewed (c .before .before .before .before .before .before .before .before)) (linked-refused (args .state .now) _ _ _ _ _ (same ∙ fired) (returned w64 (c .minus2 .result) (c .minus2 .ok) (c .minus2 .ensures))); samples = rw (← viewed (c .before .before .before .before .before .before .before .before)) (rw same (done .ensures .stored)) }
 
@@ -87,7 +88,7 @@ returns-3 : tie.Need-returns-3
 returns-3 c =
     let args = c .before .before .before .before .before .before .before .before .before .before .before .before .before .before .before .before .before .before .before .args in
     let done = c .before .before .before .before .before .before .before .before .before .before .decode-into in
-    let found = accepted _ _ _ (sym (ap toldInto (c .before .before .before .before .before .before .before .answer2 .given .1)) ∙ done .ensures .told) in
+    let found = accepted _ _ _ (sym (ap toldCount (c .before .before .before .before .before .before .before .answer2 .given .1)) ∙ done .ensures .told) in
     let same = read-rules (args .state .now) _ (yes (c .before .before .before .before .before .before .before .before .before .before .before .before .before)) in
     record {
       call = rw (← viewed (c .before .before .before .before .before .before .before .before .before .before .before .before .before)) (linked-done (args .state .now) _ _ _ _ _ (same ∙ found .0) (returned w64 (c .count .result) (c .count .ok) (c .count .ensures ∙ ap pos (sym (found .1))))

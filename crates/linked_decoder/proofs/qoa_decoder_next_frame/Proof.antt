@@ -9,7 +9,7 @@ use lib.ListN.{length}
 use mir.Syntax.{w64}
 use Prim.Native.Nat.{ℕ}
 use Rattle.wrap.proofs.Integers.{returned}
-use Rattle.word.proofs.Rules.{after-refused}
+use Rattle.refusal.proofs.Rules.{after-refused}
 use Rattle.state.specs.View.{View, view}
 use Rattle.encoder.specs.Calls.{onto}
 use Rattle.block.specs.DecoderBlock.{decoderBytes, decoderIn}

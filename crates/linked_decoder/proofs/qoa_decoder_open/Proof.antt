@@ -4,12 +4,11 @@ use native.Mathlib.Omega.{arith}
 use mathlib.Core.Path.{_≡_, refl, sym, ap, _∙_}
 use mir.Syntax.{w64}
 use Rattle.wrap.proofs.Integers.{returned}
-use Rattle.word.proofs.Rules.{after-refused}
-use Rattle.state.specs.Opening.{toldOpen}
+use Rattle.refusal.specs.Refusals.{toldChecked}
 use Rattle.state.specs.View.{View}
 use Rattle.encoder.specs.Calls.{onto}
 use Rattle.block.specs.DecoderBlock.{decoderBytes}
-use Rattle.linked_decoder.proofs.Linking.{accepted, open-bad, open-done, open-good, open-refused, open-short, opened}
+use Rattle.linked_decoder.proofs.Linking.{open-bad, open-done, open-good, open-refused, open-short, opened}
 use Rattle.linked_decoder.proofs.qoa_decoder_open.Statement.{statement}
 use Rattle.linked_decoder.proofs.qoa_decoder_open.Tie as tie
 
@@ -32,7 +31,7 @@ returns : tie.Need-returns
 returns c =
     let args = c .before .before .before .before .before .before .before .args in
     let made = c .before .before .before .before .open-decoder in
-    let quiet = accepted _ tt tt (sym (ap toldOpen (c .before .before .enum-told .given .1)) ∙ made .ensures .0) .0 in
+    let quiet = sym (made .ensures .0) ∙ ap toldChecked (c .before .before .enum-told .given .1) in
     open-refused (args .bytes .now) (args .state .now) 7 _ (open-short _ (args .state .now) quiet (c .before .if1 .taken)) (returned w64 (c .minus2 .result) (c .minus2 .ok) (c .minus2 .ensures))
 
 write-decoder-requires : tie.Need-write-decoder-requires
@@ -42,7 +41,7 @@ returns-2 : tie.Need-returns-2
 returns-2 c =
     let args = c .before .before .before .before .before .before .before .args in
     let made = c .before .before .before .before .open-decoder in
-    let fired = after-refused _ _ _ (sym (made .ensures .0) ∙ ap toldOpen (c .before .before .answer .given .1)) in
+    let fired = sym (made .ensures .0) ∙ ap toldChecked (c .before .before .answer .given .1) in
     open-refused (args .bytes .now) (args .state .now) _ _ (open-bad _ (args .state .now) _ fired) (returned w64 (c .minus .result) (c .minus .ok) (c .minus .ensures))
 
 same-length : tie.Need-same-length
@@ -52,7 +51,7 @@ returns-3 : tie.Need-returns-3
 returns-3 c =
     let args = c .before .before .before .before .before .before .before .before .before .before .before .args in
     let made = c .before .before .before .before .before .before .before .before .open-decoder in
-    let quiet = accepted _ tt tt (sym (ap toldOpen (c .before .before .before .before .before .before .enum-told .given .1)) ∙ made .ensures .0) .0 in
+    let quiet = sym (made .ensures .0) ∙ ap toldChecked (c .before .before .before .before .before .before .enum-told .given .1) in
     open-done (args .bytes .now) (args .state .now) _ _ (open-good _ (args .state .now) quiet (c .before .before .before .before .before .if1 .left)) refl
     (c .before .before .write-decoder .ensures ∙ ap (λ (v : View). onto (args .state .now) (decoderBytes v)) (opened _ _ _ quiet (made .ensures .1)))
 

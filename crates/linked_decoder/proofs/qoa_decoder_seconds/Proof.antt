@@ -5,9 +5,9 @@ use lib.Ieee.{Float, binary64, ofInt}
 use mir.Syntax.{w64}
 use mir.Val.{ofZ, toZ}
 use Rattle.wrap.proofs.Integers.{returned}
-use Rattle.word.specs.Rules.{Answer, good, refused, _then_}
-use Rattle.header.specs.Refusals.{numberOf}
-use Rattle.header.specs.declared.facts.Facts.{Facts}
+use Rattle.refusal.specs.Rules.{Answer, good, refused, _then_}
+use Rattle.refusal.specs.Refusals.{numberOf}
+use Rattle.format.specs.declared.facts.Facts.{Facts}
 use Rattle.state.specs.Facts.{toldFacts}
 use Rattle.state.specs.declared.FactsAnswer.{FactsAnswer}
 use Rattle.codes.specs.Codes.{coded, codedSeconds}

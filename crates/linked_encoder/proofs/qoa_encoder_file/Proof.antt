@@ -8,13 +8,13 @@ use lib.ListN.{length}
 use mir.Syntax.{w64}
 use Rattle.wrap.proofs.Integers.{returned}
 use Rattle.encoder.specs.Calls.{Told}
-use Rattle.encoder.specs.Encoder.{view}
+use Rattle.encoder.specs.Encoder.{encoderView}
 use Rattle.oneshot.specs.Parts.{Small}
 use Rattle.block.specs.EncoderBlock.{encoderIn}
 use Rattle.block.specs.Parts.{readableEncoder}
 use Rattle.codes.specs.Codes.{codedEncode}
 use Rattle.word.proofs.BytesLaws.{be-lt-bits}
-use Rattle.encoder.specs.Encoder.{View}
+use Rattle.encoder.specs.Encoder.{EncoderView}
 use Prim.Native.Nat.{_<_, _^_}
 use Rattle.block.proofs.Readable.{encoder-facts}
 use Rattle.linked_encoder.proofs.Small.{file-told-small}
@@ -26,7 +26,7 @@ use Rattle.linked_encoder.proofs.qoa_encoder_file.Tie as tie
 yes : (c : tie.Else1) → readableEncoder (c .before .before .before .before .before .before .args .state .now) ≡ true
 yes c = sym (c .before .before .read-encoder .ensures .readable) ∙ not-false _ (c .if1 .left)
 
-viewed : (c : tie.Else1) → view (c .before .before .read-encoder .result .state) ≡ encoderIn (c .before .before .before .before .before .before .args .state .now)
+viewed : (c : tie.Else1) → encoderView (c .before .before .read-encoder .result .state) ≡ encoderIn (c .before .before .before .before .before .before .args .state .now)
 viewed c = c .before .before .read-encoder .ensures .state (yes c)
 
 -- a total has 32 bits
@@ -59,7 +59,7 @@ keep-requires c κs = omega (arith, encoder-facts _ (yes (c .before .before .bef
 encoded-requires : tie.Need-encoded-requires
 encoded-requires c κs =
     let args = c .before .before .before .before .before .before .before .before .before .before .before .before .before .before .before .before .args in
-    let total = subst (λ (v : View). v .total < 2 ^ 32) (sym (viewed (c .before .before .before .before .before .before .before .before .before .before))) (total-small (c .before .before .before .before .before .before .before .before .before .before)) in
+    let total = subst (λ (v : EncoderView). v .total < 2 ^ 32) (sym (viewed (c .before .before .before .before .before .before .before .before .before .before))) (total-small (c .before .before .before .before .before .before .before .before .before .before)) in
     subst (λ (t : Told). Small t) (sym (c .before .before .before .before .before .before .before .encode .ensures .told)) (file-told-small _ (args .samples .now) (length (args .out .now)) total)
 
 same-length-2 : tie.Need-same-length-2

@@ -8,7 +8,7 @@ use lib.ListN.{length}
 use mir.Syntax.{w64}
 use Rattle.wrap.proofs.Integers.{returned}
 use Rattle.encoder.specs.Calls.{Told}
-use Rattle.encoder.specs.Encoder.{view}
+use Rattle.encoder.specs.Encoder.{encoderView}
 use Rattle.oneshot.specs.Parts.{Small}
 use Rattle.block.specs.EncoderBlock.{encoderIn}
 use Rattle.block.specs.Parts.{readableEncoder}
@@ -23,7 +23,7 @@ use Rattle.linked_encoder.proofs.qoa_encoder_frame.Tie as tie
 yes : (c : tie.Else1) → readableEncoder (c .before .before .before .before .before .before .args .state .now) ≡ true
 yes c = sym (c .before .before .read-encoder .ensures .readable) ∙ not-false _ (c .if1 .left)
 
-viewed : (c : tie.Else1) → view (c .before .before .read-encoder .result .state) ≡ encoderIn (c .before .before .before .before .before .before .args .state .now)
+viewed : (c : tie.Else1) → encoderView (c .before .before .read-encoder .result .state) ≡ encoderIn (c .before .before .before .before .before .before .args .state .now)
 viewed c = c .before .before .read-encoder .ensures .state (yes c)
 
 read-encoder-requires : tie.Need-read-encoder-requires

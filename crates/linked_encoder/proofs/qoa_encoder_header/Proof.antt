@@ -8,7 +8,7 @@ use lib.ListN.{length}
 use mir.Syntax.{w64}
 use Rattle.wrap.proofs.Integers.{returned}
 use Rattle.encoder.specs.Calls.{Told}
-use Rattle.encoder.specs.Encoder.{view}
+use Rattle.encoder.specs.Encoder.{encoderView}
 use Rattle.oneshot.specs.Parts.{Small}
 use Rattle.block.specs.EncoderBlock.{encoderIn}
 use Rattle.block.specs.Parts.{readableEncoder}
@@ -22,7 +22,7 @@ use Rattle.linked_encoder.proofs.qoa_encoder_header.Tie as tie
 yes : (c : tie.Else1) → readableEncoder (c .before .before .before .before .before .args .state .now) ≡ true
 yes c = sym (c .before .before .read-encoder .ensures .readable) ∙ not-false _ (c .if1 .left)
 
-viewed : (c : tie.Else1) → view (c .before .before .read-encoder .result .state) ≡ encoderIn (c .before .before .before .before .before .args .state .now)
+viewed : (c : tie.Else1) → encoderView (c .before .before .read-encoder .result .state) ≡ encoderIn (c .before .before .before .before .before .args .state .now)
 viewed c = c .before .before .read-encoder .ensures .state (yes c)
 
 read-encoder-requires : tie.Need-read-encoder-requires
@@ -42,7 +42,7 @@ write-header-requires c κs = search needs
 encoded-requires : tie.Need-encoded-requires
 encoded-requires c κs =
     let held = c .before .before .before .before .before .before .before .read-encoder .result .state in
-    subst (λ (t : Told). Small t) (sym (c .before .before .write-header .ensures .0)) (head-small (view held) (length (c .before .before .before .before .before .before .before .before .before .before .args .out .now)))
+    subst (λ (t : Told). Small t) (sym (c .before .before .write-header .ensures .0)) (head-small (encoderView held) (length (c .before .before .before .before .before .before .before .before .before .before .args .out .now)))
 
 same-length : tie.Need-same-length
 same-length c = search needs

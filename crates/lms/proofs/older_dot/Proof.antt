@@ -11,8 +11,9 @@ use Rattle.wrap.specs.Wrap.{low32}
 use Rattle.wrap.proofs.Elements.{element}
 use Rattle.wrap.proofs.Integers.{reread}
 use Rattle.wrap.proofs.Modulo.{add-low}
-use Rattle.lms.specs.Predictor.{at, olderDot}
+use Rattle.lms.specs.Predictor.{at}
 use Rattle.lms.proofs.older_dot.Statement.{statement}
+use Rattle.lms.specs.Parts.{olderDot}
 use Rattle.lms.proofs.older_dot.Tie as tie
 
 array-copy-out-wrapping-mul : tie.Need-array-copy-out-wrapping-mul

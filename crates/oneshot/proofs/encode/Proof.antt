@@ -1,7 +1,7 @@
 -- `oneshot::encode` meets its contract, by those of its parts. Assumes nothing.
 use borrow.Author.Needs.{needs}
 use mathlib.Core.Path.{refl, ap, sym, _∙_}
-use Rattle.header.specs.Refusals.{toldChecked}
+use Rattle.refusal.specs.Refusals.{toldChecked}
 use Rattle.oneshot.proofs.Ends.{shot-refused}
 use Rattle.oneshot.proofs.encode.Statement.{statement}
 use Rattle.oneshot.proofs.encode.Tie as tie

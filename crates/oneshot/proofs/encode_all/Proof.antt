@@ -1,7 +1,7 @@
 -- `oneshot::encode_all` meets its contract, by those of its parts. Assumes nothing.
 use borrow.Author.Needs.{needs}
 use mathlib.Core.Path.{refl, ap}
-use Rattle.encoder.specs.Encoder.{toldCreate}
+use Rattle.refusal.specs.Refusals.{toldChecked}
 use Rattle.encoder.proofs.Done.{was-created, was-refused}
 use Rattle.oneshot.proofs.Ends.{all-done, all-refused}
 use Rattle.oneshot.proofs.encode_all.Statement.{statement}
@@ -22,7 +22,7 @@ encode-requires c κs = search needs
 returns : tie.Need-returns
 returns c =
     let made = c .before .before .before .before in
-    all-refused _ _ _ _ _ _ _ _ (was-refused _ _ _ _ (made .new-encoder .ensures) _ (ap toldCreate (c .before .answer .given .1))) refl refl
+    all-refused _ _ _ _ _ _ _ _ (was-refused _ _ _ _ (made .new-encoder .ensures) _ (ap toldChecked (c .before .answer .given .1))) refl refl
 
 same-length : tie.Need-same-length
 same-length c = search needs
@@ -32,7 +32,7 @@ returns-2 c =
     let done = c .before .before in
     let told = done .before .before in
     let made = told .before .before .before in
-    let new = was-created _ _ _ _ (made .new-encoder .ensures) (ap toldCreate (told .enum-told .given .1)) in
+    let new = was-created _ _ _ _ (made .new-encoder .ensures) (ap toldChecked (told .enum-told .given .1)) in
     all-done _ _ _ _ _ _ _ _ _ (new .0) (new .1) refl (done .encode .ensures)
 
 pub encode-all-spec : {M : Type 1} → statement M

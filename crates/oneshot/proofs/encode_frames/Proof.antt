@@ -9,10 +9,10 @@ use native.Mathlib.Nat.{le-refl}
 use native.Mathlib.Numerals.{add-one}
 use native.Mathlib.Omega.{arith}
 use lib.ListN.{length}
-use Rattle.header.specs.Format.{maxChannels}
-use Rattle.encoder.specs.Encoder.{view}
+use Rattle.format.specs.Format.{maxChannels}
+use Rattle.encoder.specs.Encoder.{encoderView}
 use Rattle.encoder.specs.Frame.{firstWide}
-use Rattle.oneshot.specs.OneShot.{Stop, before, bytesBefore, framesIn, framesOf, needOf, stopIn}
+use Rattle.oneshot.specs.OneShot.{Stop, stateBefore, bytesBefore, framesIn, framesOf, needOf, stopIn}
 use Rattle.encoder.specs.Head.{headBytes}
 use Rattle.encoder.specs.Calls.{Told, onto, refuses-14, wrote}
 use Rattle.encoder.specs.Parts.{toldWide}
@@ -25,15 +25,15 @@ use Rattle.oneshot.proofs.encode_frames.Tie as tie
 abbrev Inv-loop : tie.InvT-loop
 Inv-loop e samples out₀ channels frames state₀ f₀ out state f =
     (f ≤ frames)
-    × (view state ≡ before (view e) samples f)
-    × (stopIn (view e) samples f ≡ none)
-    × (out ≡ onto out₀ (bytesBefore (view e) samples f))
+    × (encoderView state ≡ stateBefore (encoderView e) samples f)
+    × (stopIn (encoderView e) samples f ≡ none)
+    × (out ≡ onto out₀ (bytesBefore (encoderView e) samples f))
 
 abbrev μ-loop : tie.MeasureT-loop
 μ-loop e samples out₀ channels frames state₀ f₀ out state f = frames - f
 
 -- what the rules leave
-shot : (s : tie.Start Inv-loop μ-loop) → Shot (view (s .args .e)) (s .args .samples .now) (length (s .args .out .now))
+shot : (s : tie.Start Inv-loop μ-loop) → Shot (encoderView (s .args .e)) (s .args .samples .now) (length (s .args .out .now))
 shot s = shot-fits _ _ _ (s .pre)
 
 eight : (s : tie.Start Inv-loop μ-loop) → 8 ≤ length (s .args .out .now)
@@ -41,7 +41,7 @@ unfolding needOf
 eight s = omega (arith, shot s .enough)
 
 few : (s : tie.Start Inv-loop μ-loop) → s .args .e .channels ≤ maxChannels
-unfolding view
+unfolding encoderView
 few s = shot s .good-state .few-channels
 
 -- where the loop starts from
@@ -49,20 +49,20 @@ abbrev begun : tie.At-loop Inv-loop μ-loop → tie.Start Inv-loop μ-loop
 begun l = l .before .before .before .before .before .before .before .before .before
 
 -- the number of frames
-counted : (l : tie.At-loop Inv-loop μ-loop) → (l .before .frames-in .result ≡ framesOf (view (begun l .args .e))) × (l .before .frames-in .result < 2 ^ 32)
-unfolding view framesIn
+counted : (l : tie.At-loop Inv-loop μ-loop) → (l .before .frames-in .result ≡ framesOf (encoderView (begun l .args .e))) × (l .before .frames-in .result < 2 ^ 32)
+unfolding encoderView framesIn
 counted l = (l .before .frames-in .ensures, omega (arith, l .before .frames-in .ensures))
 
-within : (l : tie.At-loop Inv-loop μ-loop) → l .loop .f ≤ framesOf (view (begun l .args .e))
+within : (l : tie.At-loop Inv-loop μ-loop) → l .loop .f ≤ framesOf (encoderView (begun l .args .e))
 within l = omega (arith, counted l)
 
 -- `out` against the output that was lent
-memory : (l : tie.At-loop Inv-loop μ-loop) → l .loop .out ≡ onto (begun l .args .out .now) (bytesBefore (view (begun l .args .e)) (begun l .args .samples .now) (l .loop .f))
-unfolding view
+memory : (l : tie.At-loop Inv-loop μ-loop) → l .loop .out ≡ onto (begun l .args .out .now) (bytesBefore (encoderView (begun l .args .e)) (begun l .args .samples .now) (l .loop .f))
+unfolding encoderView
 memory l =
     let s = begun l in
     let h = shot s in
-    let v = view (s .args .e) in
+    let v = encoderView (s .args .e) in
     let head = headBytes (s .args .e .total) in
     let bytes = bytesBefore v (s .args .samples .now) (l .loop .f) in
     let long = length-before v (s .args .samples .now) (h .good-state .some-channels) (h .long) (l .loop .f) (within l) in
@@ -74,20 +74,20 @@ long : (l : tie.At-loop Inv-loop μ-loop) → length (l .loop .out) ≡ length (
 long l =
     let s = begun l in
     let h = shot s in
-    ap length (memory l) ∙ length-onto (s .args .out .now) (bytesBefore (view (s .args .e)) (s .args .samples .now) (l .loop .f)) (omega (arith, h .enough, before-small (view (s .args .e)) (s .args .samples .now) (h .good-state .some-channels) (h .long) (l .loop .f) (within l)))
+    ap length (memory l) ∙ length-onto (s .args .out .now) (bytesBefore (encoderView (s .args .e)) (s .args .samples .now) (l .loop .f)) (omega (arith, h .enough, before-small (encoderView (s .args .e)) (s .args .samples .now) (h .good-state .some-channels) (h .long) (l .loop .f) (within l)))
 
 -- the first wide channel, as the definitions have it
 said : (c : tie.After-first-wide Inv-loop μ-loop) →
     let l = c .before .before .before in
-    let v = view (begun l .args .e) in
-    toldWide (c .first-wide .result) ≡ firstWide (v .channels) (before v (begun l .args .samples .now) (l .loop .f) .lms)
-unfolding view
+    let v = encoderView (begun l .args .e) in
+    toldWide (c .first-wide .result) ≡ firstWide (v .channels) (stateBefore v (begun l .args .samples .now) (l .loop .f) .lms)
+unfolding encoderView
 said c =
     let turn = c .before .before in
     let l = turn .before in
     let h = shot (begun l) in
-    let below : l .loop .f < framesOf (view (begun l .args .e)) = omega (arith, counted l, turn .loop-test .taken) in
-    c .first-wide .ensures ∙ wide-now (view (begun l .args .e)) (begun l .args .samples .now) (h .good-state .some-channels) (h .long) (h .good-state) (l .loop .state) (l .loop .f) (l .loop .inv .1) below
+    let below : l .loop .f < framesOf (encoderView (begun l .args .e)) = omega (arith, counted l, turn .loop-test .taken) in
+    c .first-wide .ensures ∙ wide-now (encoderView (begun l .args .e)) (begun l .args .samples .now) (h .good-state .some-channels) (h .long) (h .good-state) (l .loop .state) (l .loop .f) (l .loop .inv .1) below
 
 put-head-requires : tie.Need-put-head-requires Inv-loop μ-loop
 put-head-requires c κs = eight (c .before .before)
@@ -102,7 +102,7 @@ frames-in-requires : tie.Need-frames-in-requires Inv-loop μ-loop
 frames-in-requires c κs = search needs
 
 loop-holds : tie.Need-loop-holds Inv-loop μ-loop
-unfolding before bytesBefore stopIn view
+unfolding stateBefore bytesBefore stopIn encoderView
 loop-holds c =
     let put = c .before .before .before .before .before in
     let s = put .before .before .before in
@@ -121,14 +121,14 @@ same-length : tie.Need-same-length Inv-loop μ-loop
 same-length c = long (c .before .before .before .before .before .before .before)
 
 returns : tie.Need-returns Inv-loop μ-loop
-unfolding view
+unfolding encoderView
 returns c =
     let found = c .before .before .before .before in
     let turn = found .before .before in
     let l = turn .before in
     let s = begun l in
     let h = shot s in
-    let v = view (s .args .e) in
+    let v = encoderView (s .args .e) in
     let samples = s .args .samples .now in
     let f = l .loop .f in
     let j = c .before .before .channel .given .0 .0 in
@@ -144,8 +144,8 @@ enum-told c = search needs
 -- no channel is too wide
 narrow : (c : tie.After-enum-told Inv-loop μ-loop) →
     let l = c .before .before .before .before .before in
-    let v = view (begun l .args .e) in
-    firstWide (v .channels) (before v (begun l .args .samples .now) (l .loop .f) .lms) ≡ none
+    let v = encoderView (begun l .args .e) in
+    firstWide (v .channels) (stateBefore v (begun l .args .samples .now) (l .loop .f) .lms) ≡ none
 narrow c = sym (said (c .before .before)) ∙ ap toldWide (c .enum-told .given .1)
 
 put-chunk-requires : tie.Need-put-chunk-requires Inv-loop μ-loop
@@ -155,7 +155,7 @@ put-chunk-requires c κs =
     let l = turn .before in
     let s = begun l in
     let h = shot s in
-    let v = view (s .args .e) in
+    let v = encoderView (s .args .e) in
     let samples = s .args .samples .now in
     let below : l .loop .f < framesOf v = omega (arith, counted l, turn .loop-test .taken) in
     let g = h .good-state in (
@@ -180,7 +180,7 @@ loop-again c =
     let l = turn .before in
     let s = begun l in
     let h = shot s in
-    let v = view (s .args .e) in
+    let v = encoderView (s .args .e) in
     let samples = s .args .samples .now in
     let f = l .loop .f in
     let below : f < framesOf v = omega (arith, counted l, turn .loop-test .taken) in
@@ -204,15 +204,15 @@ same-length-2 : tie.Need-same-length-2 Inv-loop μ-loop
 same-length-2 c = long (c .before .before .before)
 
 returns-2 : tie.Need-returns-2 Inv-loop μ-loop
-unfolding view
+unfolding encoderView
 returns-2 c =
     let l = c .before .before .before in
     let s = begun l in
-    let v = view (s .args .e) in
+    let v = encoderView (s .args .e) in
     let samples = s .args .samples .now in
     let done : l .loop .f ≡ framesOf v = omega (arith, counted l, c .before .before .loop-test .left) in
     shot-done _ _ _ _ _ (s .pre) (ap (stopIn v samples) (sym done) ∙ l .loop .inv .2) (ap {B = Told} wrote (c .file-need .ensures))
-    (memory l ∙ ap (λ (f : ℕ). onto (s .args .out .now) (bytesBefore v samples f)) done) (l .loop .inv .1 ∙ ap (before v samples) done)
+    (memory l ∙ ap (λ (f : ℕ). onto (s .args .out .now) (bytesBefore v samples f)) done) (l .loop .inv .1 ∙ ap (stateBefore v samples) done)
 
 pub encode-frames-spec : {M : Type 1} → statement M
 encode-frames-spec =

@@ -3,7 +3,7 @@ use borrow.Author.Needs.{needs}
 use mathlib.Core.Path.{_≡_}
 use Prim.Native.Nat.{ℕ, _*_, _-_}
 use lib.ListN.{take, drop}
-use Rattle.encoder.specs.Encoder.{view}
+use Rattle.encoder.specs.Encoder.{encoderView}
 use Rattle.oneshot.specs.OneShot.{chunk}
 use Rattle.oneshot.proofs.Files.{chunk-part}
 use Rattle.oneshot.proofs.put_chunk.Statement.{statement}
@@ -29,7 +29,7 @@ frame-end-requires : tie.Need-frame-end-requires
 frame-end-requires c κs = search needs
 
 frame-place-requires : tie.Need-frame-place-requires
-unfolding view
+unfolding encoderView
 frame-place-requires c κs = let s = c .before .before .before in (s .pre .1 .0 .few-channels, s .pre .0 .0)
 
 mul-put-frame : tie.Need-mul-put-frame

@@ -4,7 +4,7 @@ use mathlib.Core.List.{[], _∷_}
 use mir.Syntax.{w32}
 use Rattle.word.specs.Written.{table}
 use Rattle.wrap.proofs.Integers.{returned}
-use Rattle.header.specs.Predictor.{fourOf}
+use Rattle.format.specs.Parts.{fourOf}
 use Rattle.predictors.proofs.four_of.Statement.{statement}
 use Rattle.predictors.proofs.four_of.Tie as tie
 

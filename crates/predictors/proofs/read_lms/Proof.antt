@@ -1,10 +1,11 @@
 -- `predictors::read_lms` meets its contract. Assumes nothing.
 use borrow.Author.Needs.{needs}
 use mathlib.Core.Path.{ap, _∙_}
-use Rattle.header.specs.Predictor.{fourOf, lmsAt}
+use Rattle.format.specs.Predictor.{lmsAt}
 use Rattle.word.proofs.Fields.{AreBytes}
 use Rattle.predictors.proofs.Predictors.{four-of-bytes}
 use Rattle.predictors.proofs.read_lms.Statement.{statement}
+use Rattle.format.specs.Parts.{fourOf}
 use Rattle.predictors.proofs.read_lms.Tie as tie
 
 read-u64-requires : tie.Need-read-u64-requires

@@ -5,7 +5,7 @@ use native.Mathlib.Nat.{mul-one, zero-add}
 use native.Mathlib.Numerals.{add-one}
 use native.Mathlib.Omega.{arith}
 use Rattle.word.specs.Written.{written}
-use Rattle.header.specs.Predictor.{lmsAt}
+use Rattle.format.specs.Predictor.{lmsAt}
 use Rattle.predictors.proofs.read_states.Statement.{statement}
 use Rattle.predictors.proofs.read_states.Tie as tie
 

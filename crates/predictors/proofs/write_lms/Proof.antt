@@ -1,6 +1,6 @@
 -- `predictors::write_lms` meets its contract. Assumes nothing.
 use borrow.Author.Needs.{needs}
-use Rattle.header.specs.Predictor.{putLms}
+use Rattle.format.specs.Parts.{putLms}
 use Rattle.predictors.proofs.write_lms.Statement.{statement}
 use Rattle.predictors.proofs.write_lms.Tie as tie
 

@@ -1,5 +1,5 @@
--- `reader::decode_from` meets its contract: a walk of its MIR, by hand. A reader is made of the slice and the place, held in a local and passed to `decode_into` with the state and the lent output,
--- and the struct is made of the place of the reader that comes back and of what the decoder gave. All that the proof knows of `decode_into` is that it meets its contract.
+-- `reader::decode_from` meets its contract: a walk of its MIR, by hand. A reader is made of the slice and the place, held in a local and passed to `read_into` with the state and the lent output,
+-- and the struct is made of the place of the reader that comes back and of what the decoder gave. All that the proof knows of `read_into` is that it meets its contract.
 -- In a local of a body MIR erases the lifetime of a type, so machine values are shown to have the type at `erased`.
 -- Assumes nothing.
 use mathlib.Core.Path.{_≡_, refl, ap, subst}
@@ -57,10 +57,10 @@ use Rattle.reader.proofs.Reader.Laws as T′
 use Rattle.reader.specs.declared.ReadInto.{ReadInto}
 use Rattle.reader.proofs.ReadInto as Q
 use Rattle.reader.proofs.ReadInto.Laws as Q′
-use Rattle.reader.proofs.decode_into as decode-into
-use Rattle.reader.proofs.decode_into.Symbol as decode-into-def
-use Rattle.reader.proofs.decode_into.Symbol.{name as #reader·decode-into}
-use Rattle.reader.proofs.decode_into.Met as decode-into-thm
+use Rattle.reader.proofs.read_into as read-into
+use Rattle.reader.proofs.read_into.Symbol as read-into-def
+use Rattle.reader.proofs.read_into.Symbol.{name as #reader·read-into}
+use Rattle.reader.proofs.read_into.Met as read-into-thm
 use Rattle.reader.proofs.decode_from.Key.{name as #reader·decode-from}
 use Rattle.reader.proofs.decode_from as decode-from
 use Rattle.reader.proofs.decode_from.Statement as stated
@@ -76,7 +76,7 @@ stayed = (stay-none-slice (0 ∷ []) tt (plain (λ _. u8)) yes, (stay-none (λ _
 module _ {M : Type 1} (𝓤 : URA M) (H : Heap 𝓤) (A : Atoms 𝓤) (mem : Memory → SProp 𝓤) (run : Routine → Fun 𝓤) where
   -- the contract that the proof cites
   abbrev Into : Contract 𝓤
-  Into = tripleOf 𝓤 H A decode-into.signature (decode-into.spec 𝓤 H A mem run)
+  Into = tripleOf 𝓤 H A read-into.signature (read-into.spec 𝓤 H A mem run)
 
 module _ {M : Type 1} (𝓤 : URA M) (H : Heap 𝓤) (A : Atoms 𝓤) (W : Given 𝓤 H A) (mem : Memory → SProp 𝓤) (run : Routine → Fun 𝓤) (κ κ′ : Lft) (q q′ : Share) (s : RefT (List ℕ)) (n : ℕ) (n-fits : n < 2 ^ 64) (d : QoaDecoder) (b o : ℕ) (γ : GName) (ys : List ℤ) where
   abbrev κs : Lfts 2
@@ -129,7 +129,7 @@ module _ {M : Type 1} (𝓤 : URA M) (H : Heap 𝓤) (A : Atoms 𝓤) (W : Given
   machine g = LL.val P.the-type P′.the-laws (made g)
 
   -- what the callee is passed
-  abbrev passed : Vals decode-into.signature κs
+  abbrev passed : Vals read-into.signature κs
   passed = (mach ∷ [], (state ∷ [], (lent ∷ [], tt)))
 
   abbrev to : Into 𝓤 H A mem run .Ghost
@@ -138,7 +138,7 @@ module _ {M : Type 1} (𝓤 : URA M) (H : Heap 𝓤) (A : Atoms 𝓤) (W : Given
   abbrev Facts : ReadInto → List ℤ → Type 0
   Facts g zs = (g .reader .src ≡ s) × IntoRead (now s) n d ys (g .reader .at) (g .done) zs
 
-  asked : ent 𝓤 (onEntry 𝓤 H A decode-into.signature κs (q, (q′, tt)) (r, (d, (x, tt))) passed) (Into 𝓤 H A mem run .pre to)
+  asked : ent 𝓤 (onEntry 𝓤 H A read-into.signature κs (q, (q′, tt)) (r, (d, (x, tt))) passed) (Into 𝓤 H A mem run .pre to)
   asked = qed W ((‵ (flft κ q) ⊛ ‵ (flft κ′ q′) ⊛ ‵ ftrue) ∷ ‵ (owns (B κs ∷ S.the-row ∷ MutSlice (named 1) κ′ i16 ∷ []) (r, (d, (x, tt))) passed) ∷ []) ∵ join ! $ frame ! $ done !
 
   -- what the parameters own gives what the callee asks, and what s owns is kept
@@ -171,7 +171,7 @@ module _ {M : Type 1} (𝓤 : URA M) (H : Heap 𝓤) (A : Atoms 𝓤) (W : Given
       nothing ! $ move ! (1 ∷ 0 ∷ []) $ fjoin ! $ owned ! S.the-row (Is S.the-row) (LL.makes S.the-type S′.the-plain 𝓤 H A) d _ isd $ fjoin ! $ owned ! usize (Is usize) (uint-makes 𝓤 H A W w64) n _ (refl, n-fits) $ fjoin ! $
       move ! (1 ∷ 0 ∷ []) $ fjoin ! $ frame ! $ owned ! P.the-row (Is P.the-row) (LL.makes P.the-type P′.the-plain 𝓤 H A) (made g) _ (is-made g is) $ done !
 
-  module _ (C : Calls 𝓤 H) (Λ : Loops 𝓤 H) (fm : FmC 𝓤 H (W .laws) C) (known : Triple 𝓤 (C #reader·decode-into) (Into 𝓤 H A mem run)) where
+  module _ (C : Calls 𝓤 H) (Λ : Loops 𝓤 H) (fm : FmC 𝓤 H (W .laws) C) (known : Triple 𝓤 (C #reader·read-into) (Into 𝓤 H A mem run)) where
     walk : Is (ShrSlice (named 0) κ u8) s (v ∷ []) → Is S.the-row d (state ∷ []) → Room i16 (length ys)
         → ent 𝓤 (onEntry 𝓤 H A decode-from.signature κs (q, (q′, tt)) (s, (n, (d, (x, tt)))) vals) (WpFn 𝓤 H C Λ code.function (v ∷ vint w64 n ∷ state ∷ lent ∷ []) Post)
     walk p isd room =
@@ -185,8 +185,8 @@ module _ {M : Type 1} (𝓤 : URA M) (H : Heap 𝓤) (A : Atoms 𝓤) (W : Given
         assigns ! (agg ! (and-then ! (load ! (from ! (stop !)) (look ! 6 refl)) (and-then ! (load ! (from ! (fld ! refl (stop !))) (look-in ! 12 (sub ! 1 refl (whole !)))) (no-more !)))) (from ! (stop !)) (init ! 4 refl (tt, (tt, (record { fits = room .0 }, tt)))) $
         move ! (22 ∷ []) $ use1 W (raw (Into 𝓤 H A mem run .pre to) ⊛ ‵ Own) apart $ split ! $
         calls-at ! fm (Into 𝓤 H A mem run) known to (and-then ! (load ! (from ! (stop !)) (look ! 10 refl)) (and-then ! (load ! (from ! (stop !)) (look ! 16 refl)) (and-then ! (load ! (from ! (stop !)) (look ! 6 refl)) (no-more !)))) (λ u.
-        use1 W (later (some (λ (g : ReadInto). ((‵ (flft κ q) ⊛ ‵ (flft κ′ q′) ⊛ ‵ ftrue) ⊛ ‵ (Q.the-row α .own g (u ∷ []))) ⊛ raw (ensured 𝓤 H A decode-into.ended (decode-into.clauses 𝓤 H A mem run) κs (r, (d, (x, tt))) tt g)))) (id⊢ 𝓤 _) $ await ! tt $ pick ! (λ g.
-        split ! $ move ! (1 ∷ []) $ use1 W (some (λ (zs : Unit {0} × (Unit {0} × (List ℤ × Unit {0}))). ‵ (lasts decode-into.ended κs (r, (d, (x, tt))) zs) ⊛ raw (fact 𝓤 (Facts g (zs .1 .1 .0))))) (id⊢ 𝓤 _) $ pick ! (λ zs.
+        use1 W (later (some (λ (g : ReadInto). ((‵ (flft κ q) ⊛ ‵ (flft κ′ q′) ⊛ ‵ ftrue) ⊛ ‵ (Q.the-row α .own g (u ∷ []))) ⊛ raw (ensured 𝓤 H A read-into.ended (read-into.clauses 𝓤 H A mem run) κs (r, (d, (x, tt))) tt g)))) (id⊢ 𝓤 _) $ await ! tt $ pick ! (λ g.
+        split ! $ move ! (1 ∷ []) $ use1 W (some (λ (zs : Unit {0} × (Unit {0} × (List ℤ × Unit {0}))). ‵ (lasts read-into.ended κs (r, (d, (x, tt))) zs) ⊛ raw (fact 𝓤 (Facts g (zs .1 .1 .0))))) (id⊢ 𝓤 _) $ pick ! (λ zs.
         split ! $ move ! (1 ∷ []) $ heard ! (Facts g (zs .1 .1 .0)) (λ e. fsplit ! $ move ! (1 ∷ []) $ fsplit ! $ move ! (1 ∷ []) $ fsplit ! $ fsplit ! $ move ! (1 ∷ []) $ feqL ! (λ l.
         -- [the last list; three of nothing; the tokens and what came back; what s owns; _10; …]
         move ! (4 ∷ []) $ split ! $ move ! (1 ∷ []) $
@@ -204,7 +204,7 @@ module _ {M : Type 1} (𝓤 : URA M) (H : Heap 𝓤) (A : Atoms 𝓤) (W : Given
         keep ! (1 ∷ 2 ∷ 6 ∷ []) $ by ! (exits isd g (zs .1 .1 .0) is e l))))))))))))))))))
 
 module _ {M : Type 1} (𝓤 : URA M) (H : Heap 𝓤) (A : Atoms 𝓤) (W : Given 𝓤 H A) (mem : Memory → SProp 𝓤) (run : Routine → Fun 𝓤) where
-  decode-from-walks : (C : Calls 𝓤 H) (Λ : Loops 𝓤 H) → FmC 𝓤 H (W .laws) C → Triple 𝓤 (C #reader·decode-into) (Into 𝓤 H A mem run)
+  decode-from-walks : (C : Calls 𝓤 H) (Λ : Loops 𝓤 H) → FmC 𝓤 H (W .laws) C → Triple 𝓤 (C #reader·read-into) (Into 𝓤 H A mem run)
       → Walks 𝓤 H A decode-from.ended stayed (WpFn 𝓤 H C Λ code.function) (decode-from.clauses 𝓤 H A mem run)
   decode-from-walks C Λ fm known = walked 𝓤 H A decode-from.ended stayed (decode-from.clauses 𝓤 H A mem run) (WpFn 𝓤 H C Λ code.function)
       (λ κs. (slice-vals, (uint-vals w64, (LL.vals S.the-type S′.the-laws, (slice-vals, tt))))) (λ κs. (shr-slice-tells (named 0) (κs .0) u8, (uint-tells w64, (LL.tells S.the-type S′.the-laws, (mut-slice-tells (named 1) (κs .1 .0) i16, tt)))))
@@ -212,7 +212,7 @@ module _ {M : Type 1} (𝓤 : URA M) (H : Heap 𝓤) (A : Atoms 𝓤) (W : Given
       (are .0) (are .1 .1 .0) (are .1 .1 .1 .0 .0 .1)))
 
 decode-from-meets : {M : Type 1} (𝓤 : URA M) (H : Heap 𝓤) (A : Atoms 𝓤) (W : Given 𝓤 H A) (mem : Memory → SProp 𝓤) (run : Routine → Fun 𝓤) (𝓣 : Tables 𝓤 H)
-    → Triple 𝓤 (𝓣 .C #reader·decode-into) (Into 𝓤 H A mem run)
+    → Triple 𝓤 (𝓣 .C #reader·read-into) (Into 𝓤 H A mem run)
     → Meets 𝓤 H A decode-from.signature (WpFn 𝓤 H (𝓣 .C) (𝓣 .Λ) code.function) (decode-from.spec 𝓤 H A mem run)
 decode-from-meets 𝓤 H A W mem run 𝓣 known =
     walk-meets 𝓤 H A decode-from.ended stayed W
@@ -225,4 +225,4 @@ decode-from-spec 𝓤 H 𝓜 𝓖 𝓡 =
     entered 𝓤 H (tripleOf 𝓤 H (𝓖 .A) decode-from.signature (decode-from.spec 𝓤 H (𝓖 .A) (𝓜 .mem) (𝓡 .run)))
     (tables 𝓤 H 𝓜 𝓡 code.env .C) (tables 𝓤 H 𝓜 𝓡 code.env .Λ) #reader·decode-from code.function (code.unfolded 𝓤 H 𝓜 𝓡)
     (decode-from-meets 𝓤 H (𝓖 .A) (givenOf 𝓤 H 𝓜 𝓖) (𝓜 .mem) (𝓡 .run) (tablesOf 𝓤 H 𝓜 (tables 𝓤 H 𝓜 𝓡 code.env))
-    (cited 𝓤 H (Into 𝓤 H (𝓖 .A) (𝓜 .mem) (𝓡 .run)) 𝓜 𝓡 code.env #reader·decode-into decode-into-def.routine code.calls-reader·decode-into (decode-into-thm.met 𝓤 H 𝓜 𝓖 𝓡)))
+    (cited 𝓤 H (Into 𝓤 H (𝓖 .A) (𝓜 .mem) (𝓡 .run)) 𝓜 𝓡 code.env #reader·read-into read-into-def.routine code.calls-reader·read-into (read-into-thm.met 𝓤 H 𝓜 𝓖 𝓡)))

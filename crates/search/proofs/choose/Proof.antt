@@ -14,7 +14,7 @@ use denote.Ref.{now}
 use Rattle.lms.specs.Predictor.{at}
 use Rattle.lms.specs.declared.QoaLms.{QoaLms}
 use Rattle.lms.proofs.Bounds.{within-more}
-use Rattle.scale.specs.Quick.{quickRow}
+use Rattle.scale.specs.Parts.{quickRow}
 use Rattle.scale.specs.Tables.{rowOf}
 use Rattle.scale.proofs.QuickRows.{quick-length, quick-tab-row}
 use Rattle.scale.proofs.Rules.{tab-row}

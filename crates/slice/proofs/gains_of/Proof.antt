@@ -10,7 +10,7 @@ use mir.Syntax.{w32}
 use mir.Val.{SFits}
 use Rattle.wrap.proofs.Elements.{element}
 use Rattle.wrap.proofs.Integers.{reread}
-use Rattle.ahead.specs.Loop.{gainsOf}
+use Rattle.ahead.specs.Parts.{gainsOf}
 use Rattle.lms.specs.Predictor.{at}
 use Rattle.slice.proofs.gains_of.Statement.{statement}
 use Rattle.slice.proofs.gains_of.Tie as tie

@@ -6,9 +6,10 @@ use native.Mathlib.Omega.{arith}
 use Rattle.word.specs.Written.{written}
 use Rattle.word.proofs.Writes.{length-written}
 use Rattle.lms.proofs.Bounds.{within-more}
-use Rattle.slice.specs.Slice.{stateAfter, HeardTo}
+use Rattle.slice.specs.Slice.{stateAfter}
 use Rattle.slice.proofs.Growth.{state-within}
 use Rattle.slice.proofs.hear_fours.Statement.{statement}
+use Rattle.slice.specs.Parts.{HeardTo}
 use Rattle.slice.proofs.hear_fours.Tie as tie
 
 abbrev Inv-loop : tie.InvT-loop

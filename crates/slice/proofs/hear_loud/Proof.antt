@@ -10,16 +10,18 @@ use mir.Syntax.{w16, w32}
 use mir.Facts.{toZ-ofZ}
 use Rattle.wrap.proofs.Integers.{reread, returned}
 use Rattle.word.specs.Word.{codeOf}
-use Rattle.ahead.specs.Loop.{aheadOf, movedBy}
-use Rattle.lms.specs.Predictor.{clamp16, predicted, updated, WeightsWithin}
+use Rattle.ahead.specs.Parts.{aheadOf, movedBy}
+use Rattle.lms.specs.Predictor.{clamp16, predicted, updated}
 use Rattle.lms.specs.declared.QoaLms.{QoaLms}
 use Rattle.lms.proofs.Bounds.{clamp16-fits, update-within, within-more}
 use Rattle.ahead.proofs.GainLaws.{moved-updated}
-use Rattle.slice.specs.Slice.{residualAt, HeardTo}
+use Rattle.slice.specs.Slice.{residualAt}
 use Rattle.slice.proofs.Codes.{code-lt, gains-there, small-there, value-small, value-there}
 use Rattle.slice.proofs.Growth.{residual-small}
 use Rattle.slice.proofs.Steps.{ahead-lms, ahead-own, heard-next}
 use Rattle.slice.proofs.hear_loud.Statement.{statement}
+use Rattle.lms.specs.Parts.{WeightsWithin}
+use Rattle.slice.specs.Parts.{HeardTo}
 use Rattle.slice.proofs.hear_loud.Tie as tie
 
 abbrev Inv-loop : tie.InvT-loop

@@ -1,8 +1,8 @@
 -- `survey::check_end` meets its contract. Assumes nothing.
 use borrow.Author.Needs.{needs}
 use mathlib.Core.Path.{ap, sym, _∙_}
-use Rattle.word.specs.Rules.{firstOf}
-use Rattle.survey.specs.Survey.{readerFor}
+use Rattle.refusal.specs.Rules.{firstOf}
+use Rattle.survey.specs.Parts.{readerFor}
 use Rattle.survey.specs.declared.Kind.{Kind}
 use Rattle.survey.proofs.check_end.Statement.{statement}
 use Rattle.survey.proofs.check_end.Tie as tie

@@ -2,9 +2,9 @@
 use borrow.Author.Needs.{needs}
 use Prim.Native.Nat.{ℕ}
 use mathlib.Core.Path.{ap, sym, _∙_}
-use Rattle.word.specs.Rules.{firstOf}
-use Rattle.header.specs.Part.{cutRules}
-use Rattle.survey.specs.Survey.{rulesFor}
+use Rattle.refusal.specs.Rules.{firstOf}
+use Rattle.format.specs.Part.{cutRules}
+use Rattle.survey.specs.Parts.{rulesFor}
 use Rattle.survey.specs.declared.Kind.{Kind}
 use Rattle.survey.proofs.FrameKinds.{any-rules, like-rules}
 use Rattle.survey.proofs.check_frame.Statement.{statement}

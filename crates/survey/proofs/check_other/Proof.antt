@@ -3,8 +3,8 @@ use borrow.Author.Needs.{needs}
 use Prim.Native.Nat.{ℕ}
 use mathlib.Core.Option.{Option}
 use mathlib.Core.Path.{ap, _∙_}
-use Rattle.word.specs.Rules.{firstOf}
-use Rattle.header.specs.Part.{cutRules}
+use Rattle.refusal.specs.Rules.{firstOf}
+use Rattle.format.specs.Part.{cutRules}
 use Rattle.survey.proofs.FrameKinds.{same-first, state-first}
 use Rattle.survey.proofs.check_other.Statement.{statement}
 use Rattle.survey.proofs.check_other.Tie as tie

@@ -1,7 +1,7 @@
 -- `survey::check_same` meets its contract.  Assumes nothing.
 use mathlib.Core.Path.{sym}
 use native.Mathlib.Omega.{arith}
-use Rattle.word.proofs.Rules.{fires, none-fires}
+use Rattle.refusal.proofs.Rules.{fires, none-fires}
 use Rattle.word.proofs.Tests.{tests}
 use Rattle.survey.proofs.check_same.Statement.{statement}
 use Rattle.survey.proofs.check_same.Tie as tie

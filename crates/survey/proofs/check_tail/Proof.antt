@@ -2,9 +2,9 @@
 use mathlib.Core.Path.{sym}
 use native.Mathlib.Omega.{arith}
 use lib.Dec.{ltb, lt→ltb}
-use Rattle.word.proofs.Rules.{fires, none-fires}
+use Rattle.refusal.proofs.Rules.{fires, none-fires}
 use Rattle.word.proofs.Tests.{notn, tests}
-use Rattle.header.specs.Grammar.{tailOk}
+use Rattle.format.specs.Grammar.{tailOk}
 use Rattle.survey.proofs.check_tail.Statement.{statement}
 use Rattle.survey.proofs.check_tail.Tie as tie
 

@@ -1,9 +1,9 @@
 -- `survey::first_of` meets its contract. Assumes nothing.
 use borrow.Author.Needs.{needs}
 use mathlib.Core.Path.{ap, sym}
-use Rattle.header.specs.Refusals.{toldChecked}
-use Rattle.header.specs.declared.refusal.Checked.{Checked}
-use Rattle.survey.specs.Survey.{sooner}
+use Rattle.refusal.specs.Refusals.{toldChecked}
+use Rattle.refusal.specs.declared.Checked.{Checked}
+use Rattle.survey.specs.Parts.{sooner}
 use Rattle.survey.proofs.first_of.Statement.{statement}
 use Rattle.survey.proofs.first_of.Tie as tie
 

@@ -6,11 +6,11 @@ use mathlib.Core.Path.{_≡_, refl, sym, ap, ap₂, _∙_}
 use native.Mathlib.Omega.{arith}
 use denote.Ref.{now}
 use lib.ListN.{length, drop}
-use Rattle.word.specs.Rules.{firstOf}
-use Rattle.header.specs.Refusals.{toldChecked}
-use Rattle.format.specs.Frame.{countOf}
-use Rattle.format.proofs.Frames.{frame-eight}
-use Rattle.survey.specs.Survey.{fitAfter, readerFor}
+use Rattle.refusal.specs.Rules.{firstOf}
+use Rattle.refusal.specs.Refusals.{toldChecked}
+use Rattle.file.specs.Frame.{countOf}
+use Rattle.file.proofs.Frames.{frame-eight}
+use Rattle.survey.specs.Parts.{fitAfter, readerFor}
 use Rattle.survey.proofs.FrameKinds.{Whole, passed, rules-here}
 use Rattle.survey.proofs.Walking.{ended, refused-end, refused-turn, turn}
 use Rattle.survey.proofs.walk_frames.Statement.{statement}

@@ -7,12 +7,13 @@ use native.Mathlib.Omega.{arith}
 use denote.Ref.{now}
 use lib.IntN.{ℤ}
 use lib.ListN.{length}
-use Rattle.word.specs.Rules.{Answer, good}
-use Rattle.format.specs.Reader.{Audio}
-use Rattle.whole.specs.Told.{heardIn, kept, summaryIn, toldNeed}
-use Rattle.whole.specs.declared.answer.Summary.{Summary}
+use Rattle.refusal.specs.Rules.{Answer, good}
+use Rattle.file.specs.Whole.{Audio}
+use Rattle.whole.specs.Told.{heardIn, kept, summaryIn}
+use Rattle.refusal.specs.Refusals.{toldSummary}
 use Rattle.whole.proofs.Calls.{Needs, audio-held, enough-room, file-needs, file-refused, head-there, held-room, no-room}
 use Rattle.whole.proofs.decode_all.Statement.{statement}
+use Rattle.refusal.specs.declared.Summary.{Summary}
 use Rattle.whole.proofs.decode_all.Tie as tie
 
 abbrev room : tie.After-decode-need → ℕ
@@ -23,7 +24,7 @@ input c = now (c .before .before .args .bytes)
 
 -- where nothing was refused
 needs : (c : tie.After-summary) → Needs (room (c .before .before)) (input (c .before .before)) (c .summary .given .0 .0)
-needs c = let need = c .before .before in file-needs (room need) (input need) _ (sym (need .decode-need .ensures) ∙ ap toldNeed (c .summary .given .1))
+needs c = let need = c .before .before in file-needs (room need) (input need) _ (sym (need .decode-need .ensures) ∙ ap toldSummary (c .summary .given .1))
 
 decode-need-requires : tie.Need-decode-need-requires
 decode-need-requires c κs = search author.needs
@@ -50,7 +51,7 @@ decode-held-requires c κs =
 returns-2 : tie.Need-returns-2
 returns-2 c =
     let need = c .before .before .before in
-    let refusal = file-refused (room need) (input need) _ (sym (need .decode-need .ensures) ∙ ap toldNeed (c .before .r .given .1)) in
+    let refusal = file-refused (room need) (input need) _ (sym (need .decode-need .ensures) ∙ ap toldSummary (c .before .r .given .1)) in
     (sym (ap summaryIn refusal), sym (ap (λ (a : Answer Audio). kept (heardIn a) (now (need .before .before .args .out))) refusal))
 
 same-length : tie.Need-same-length

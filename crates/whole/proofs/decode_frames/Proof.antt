@@ -7,9 +7,9 @@ use native.Mathlib.Omega.{arith}
 use denote.Ref.{now}
 use lib.IntN.{ℤ}
 use lib.ListN.{length}
-use Rattle.word.specs.Rules.{Answer}
-use Rattle.format.specs.Streaming.{streamed}
-use Rattle.survey.specs.Told.{toldFrames}
+use Rattle.refusal.specs.Rules.{Answer}
+use Rattle.file.specs.Streaming.{streamed}
+use Rattle.refusal.specs.Refusals.{toldCount}
 use Rattle.whole.specs.Told.{countIn, kept}
 use Rattle.whole.proofs.Calls.{frames-counted, frames-good, frames-refused, Streams}
 use Rattle.whole.proofs.decode_frames.Statement.{statement}
@@ -22,12 +22,12 @@ room c = length (now (c .before .before .args .out))
 abbrev input : tie.After-walk-frames → List ℕ
 input c = now (c .before .before .args .bytes)
 
-count : (c : tie.After-walk-frames) → toldFrames (c .walk-frames .result) ≡ countIn (streamed (room c) (input c))
+count : (c : tie.After-walk-frames) → toldCount (c .walk-frames .result) ≡ countIn (streamed (room c) (input c))
 count c = c .walk-frames .ensures ∙ frames-counted (room c) (input c)
 
 -- where nothing was refused
 found : (c : tie.After-count) → Streams (room (c .before .before)) (input (c .before .before)) (c .count .given .0 .0)
-found c = let walk = c .before .before in frames-good (room walk) (input walk) _ (sym (count walk) ∙ ap toldFrames (c .count .given .1))
+found c = let walk = c .before .before in frames-good (room walk) (input walk) _ (sym (count walk) ∙ ap toldCount (c .count .given .1))
 
 walk-frames-requires : tie.Need-walk-frames-requires
 walk-frames-requires c κs = search needs
@@ -46,7 +46,7 @@ decode-held-requires c κs =
 returns : tie.Need-returns
 returns c =
     let walk = c .before .before .before in
-    let refusal = frames-refused (room walk) (input walk) _ (sym (count walk) ∙ ap toldFrames (c .before .r .given .1)) in
+    let refusal = frames-refused (room walk) (input walk) _ (sym (count walk) ∙ ap toldCount (c .before .r .given .1)) in
     (sym (ap countIn refusal), sym (ap (λ (a : Answer (List ℤ)). kept a (now (walk .before .before .args .out))) refusal))
 
 same-length : tie.Need-same-length
@@ -56,7 +56,7 @@ returns-2 : tie.Need-returns-2
 returns-2 c =
     let walk = c .before .before .before .before .before .before in
     let all = found (c .before .before .before .before) in (
-      sym (ap toldFrames (c .before .before .before .before .count .given .1)) ∙ count walk,
+      sym (ap toldCount (c .before .before .before .before .count .given .1)) ∙ count walk,
       c .before .decode-held .ensures ∙ ap (λ (a : Answer (List ℤ)). kept a (now (walk .before .before .args .out))) (all .are-held ∙ sym (all .answer)),
     )
 

@@ -5,11 +5,11 @@ use mathlib.Core.Path.{_≡_, sym, ap, _∙_}
 use native.Mathlib.Omega.{arith}
 use denote.Ref.{now}
 use lib.ListN.{length-drop}
-use Rattle.word.specs.Rules.{Answer, _then_}
-use Rattle.survey.specs.Told.{toldFrames}
+use Rattle.refusal.specs.Rules.{Answer, _then_}
+use Rattle.refusal.specs.Refusals.{toldCount}
 use Rattle.whole.specs.Told.{summaryIn}
-use Rattle.survey.specs.Survey.{audioAfter}
-use Rattle.survey.specs.declared.FramesAnswer.{FramesAnswer}
+use Rattle.survey.specs.Parts.{audioAfter}
+use Rattle.refusal.specs.declared.CountAnswer.{CountAnswer}
 use Rattle.whole.proofs.Surveying.{no-frame, summary, surveyed}
 use Rattle.whole.proofs.need_after.Statement.{statement}
 use Rattle.whole.proofs.need_after.Tie as tie
@@ -17,7 +17,7 @@ use Rattle.whole.proofs.need_after.Tie as tie
 -- the walk's answer, with the first frame's channels and rate
 counted : (c : tie.After-walk-frames)
     → summaryIn (audioAfter (c .before .before .before .before .args .fixed) (now (c .before .before .before .before .args .bytes)))
-    ≡ (toldFrames (c .walk-frames .result) then summary (c .before .read-header .result .channels) (c .before .read-header .result .rate))
+    ≡ (toldCount (c .walk-frames .result) then summary (c .before .read-header .result .channels) (c .before .read-header .result .rate))
 counted c =
     let args = c .before .before .before .before .args in
     let h = c .before .read-header .result in
@@ -46,10 +46,10 @@ enum-known-count : tie.Need-enum-known-count
 enum-known-count c = search needs
 
 returns-2 : tie.Need-returns-2
-returns-2 c = sym (counted (c .before .before .before) ∙ ap (λ (a : FramesAnswer). toldFrames a then summary (c .before .before .before .before .read-header .result .channels) (c .before .before .before .before .read-header .result .rate)) (c .before .r .given .1))
+returns-2 c = sym (counted (c .before .before .before) ∙ ap (λ (a : CountAnswer). toldCount a then summary (c .before .before .before .before .read-header .result .channels) (c .before .before .before .before .read-header .result .rate)) (c .before .r .given .1))
 
 returns-3 : tie.Need-returns-3
-returns-3 c = sym (counted (c .before .before .before) ∙ ap (λ (a : FramesAnswer). toldFrames a then summary (c .before .before .before .before .read-header .result .channels) (c .before .before .before .before .read-header .result .rate)) (c .before .count .given .1))
+returns-3 c = sym (counted (c .before .before .before) ∙ ap (λ (a : CountAnswer). toldCount a then summary (c .before .before .before .before .read-header .result .channels) (c .before .before .before .before .read-header .result .rate)) (c .before .count .given .1))
 
 pub need-after-spec : {M : Type 1} → statement M
 need-after-spec =

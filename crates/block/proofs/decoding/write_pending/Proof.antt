@@ -11,7 +11,7 @@ use Rattle.wrap.specs.Wrap.{low16}
 use Rattle.wrap.proofs.Integers.{returned}
 use Rattle.word.specs.Bytes.{bytesOf}
 use Rattle.word.proofs.BytesLaws.{length-bytes}
-use Rattle.header.specs.Format.{maxChannels}
+use Rattle.format.specs.Format.{maxChannels}
 use Rattle.body.specs.Laid.{laid}
 use Rattle.body.specs.Laid.{overlaid}
 use Rattle.body.proofs.Laids.{length-blocks, next-block}

@@ -1,7 +1,7 @@
 -- `block::encoding::write_encoder` meets its contract. Assumes nothing.
 use borrow.Author.Needs.{needs}
 use native.Mathlib.Omega.{arith}
-use Rattle.encoder.specs.Encoder.{view}
+use Rattle.encoder.specs.Encoder.{encoderView}
 use Rattle.block.proofs.Layouts.{encoder-over}
 use Rattle.block.proofs.encoding.write_encoder.Statement.{statement}
 use Rattle.block.proofs.encoding.write_encoder.Tie as tie
@@ -28,10 +28,10 @@ same-length : tie.Need-same-length
 same-length c = search needs
 
 returns : tie.Need-returns
-unfolding view
+unfolding encoderView
 returns c =
     let s = c .before .before .before .before .before .before .before .before .before .before .before .before .before .before .before .before .before .before .before .before in
-    rw (c .before .before .write-predictors .ensures, c .before .before .before .before .before .before .before .write-u322 .ensures, c .before .before .before .before .before .before .before .before .before .before .before .write-u32 .ensures, c .before .before .before .before .before .before .before .before .before .before .before .before .before .before .before .write-be .ensures) (encoder-over (s .args .block .now) (view (s .args .e)) (s .pre))
+    rw (c .before .before .write-predictors .ensures, c .before .before .before .before .before .before .before .write-u322 .ensures, c .before .before .before .before .before .before .before .before .before .before .before .write-u32 .ensures, c .before .before .before .before .before .before .before .before .before .before .before .before .before .before .before .write-be .ensures) (encoder-over (s .args .block .now) (encoderView (s .args .e)) (s .pre))
 
 pub write-encoder-spec : {M : Type 1} → statement M
 write-encoder-spec =

@@ -5,7 +5,7 @@ use native.Mathlib.Nat.{mul-one, zero-add}
 use native.Mathlib.Numerals.{add-one}
 use native.Mathlib.Omega.{arith}
 use Rattle.word.specs.Written.{table, written}
-use Rattle.header.specs.Predictor.{lmsOf}
+use Rattle.format.specs.Predictor.{lmsOf}
 use Rattle.state.proofs.Views.{stored-lms}
 use Rattle.block.specs.Predictors.{predictorIn, predictorsIn}
 use Rattle.block.proofs.predictors.read_predictors.Statement.{statement}

@@ -2,7 +2,7 @@
 use mathlib.Core.Path.{refl, ap}
 use Rattle.state.specs.View.{view}
 use Rattle.decoder.specs.Items.{settled}
-use Rattle.frames.specs.Frames.{EnterDone}
+use Rattle.frames.specs.Parts.{EnterDone}
 use Rattle.frames.specs.declared.FrameAnswer.the-variants.{End}
 use Rattle.frames.proofs.FrameLaws.{enter-end}
 use Rattle.decoder.proofs.ItemLaws.{itemFrom, next-turn}

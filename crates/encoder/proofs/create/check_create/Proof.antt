@@ -1,7 +1,7 @@
 -- `encoder::create::check_create` meets its contract. The first rule of `createRules` that fires, one return for each. Assumes nothing.
 use mathlib.Core.Path.{sym}
 use native.Mathlib.Omega.{arith}
-use Rattle.word.proofs.Rules.{fires, none-fires}
+use Rattle.refusal.proofs.Rules.{fires, none-fires}
 use Rattle.word.proofs.Tests.{tests}
 use Rattle.encoder.specs.Encoder.{createRules}
 use Rattle.encoder.proofs.create.check_create.Statement.{statement}

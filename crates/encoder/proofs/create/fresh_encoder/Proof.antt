@@ -7,8 +7,8 @@ use lib.ListN.{replicate, getD-replicate}
 use Rattle.word.proofs.Tables.{table-ext}
 use Rattle.lms.specs.Predictor.{newLms}
 use Rattle.lms.specs.declared.QoaLms.{QoaLms}
-use Rattle.header.specs.Predictor.{lmsOf, noLms}
-use Rattle.encoder.specs.Encoder.{View, newView, view}
+use Rattle.format.specs.Predictor.{lmsOf, noLms}
+use Rattle.encoder.specs.Encoder.{EncoderView, newView, encoderView}
 use Rattle.encoder.proofs.create.fresh_encoder.Statement.{statement}
 use Rattle.encoder.proofs.create.fresh_encoder.Tie as tie
 
@@ -16,11 +16,11 @@ new-lms-requires : tie.Need-new-lms-requires
 new-lms-requires c κs = search needs
 
 returns : tie.Need-returns
-unfolding view newView
+unfolding encoderView newView
 returns c =
     let args = c .before .args in
     rw (c .new-lms .ensures)
-    (ap {B = View} (λ (l : List QoaLms). record { channels = args .channels; rate = args .rate; total = args .total; lms = l })
+    (ap {B = EncoderView} (λ (l : List QoaLms). record { channels = args .channels; rate = args .rate; total = args .total; lms = l })
     (table-ext (args .channels) (lmsOf (replicate 8 newLms)) (λ j. newLms) (λ j h. getD-replicate 8 j newLms noLms (omega (arith, c .before .pre)))))
 
 pub fresh-encoder-spec : {M : Type 1} → statement M

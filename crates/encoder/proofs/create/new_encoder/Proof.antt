@@ -2,8 +2,8 @@
 use borrow.Author.Needs.{needs}
 use mathlib.Core.Path.{_≡_, refl, ap, sym, _∙_}
 use mathlib.Core.Option.{none}
-use Rattle.word.specs.Rules.{firstOf}
-use Rattle.header.specs.Refusals.{toldChecked}
+use Rattle.refusal.specs.Rules.{firstOf}
+use Rattle.refusal.specs.Refusals.{toldChecked}
 use Rattle.encoder.specs.Encoder.{createRules}
 use Rattle.encoder.proofs.Done.{creatable, create-refused, created}
 use Rattle.encoder.proofs.create.new_encoder.Statement.{statement}

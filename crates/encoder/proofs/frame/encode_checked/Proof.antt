@@ -5,9 +5,9 @@ use mathlib.Core.Option.{none}
 use Prim.Native.Nat.{_≤_}
 use native.Mathlib.Omega.{arith}
 use lib.ListN.{length}
-use Rattle.header.specs.Format.{frameLength}
-use Rattle.encoder.specs.Encoder.{view}
-use Rattle.encoder.specs.Frame.{firstWide, frameRules, perChannel}
+use Rattle.format.specs.Format.{frameLength}
+use Rattle.encoder.specs.Encoder.{encoderView}
+use Rattle.encoder.specs.Frame.{firstWide, encodeRules, perChannel}
 use Rattle.encoder.specs.Calls.{Told, wrote}
 use Rattle.encoder.specs.Parts.{FrameFits, toldWide}
 use Rattle.encoder.proofs.Done.{frame-done, frame-fits, frame-wide, good-left}
@@ -17,19 +17,19 @@ use Rattle.encoder.proofs.Heads.{over-start}
 use Rattle.encoder.proofs.frame.encode_checked.Statement.{statement}
 use Rattle.encoder.proofs.frame.encode_checked.Tie as tie
 
-facts : (s : tie.Start) → Good (view (s .args .e))
-unfolding frameRules
+facts : (s : tie.Start) → Good (encoderView (s .args .e))
+unfolding encodeRules
 facts s = good-left _ _ (s .pre)
 
 -- the first wide channel, as the definitions have it
-said : (c : tie.After-first-wide) → let e = c .before .before .before .before .args .e in toldWide (c .first-wide .result) ≡ firstWide (view e .channels) (view e .lms)
+said : (c : tie.After-first-wide) → let e = c .before .before .before .before .args .e in toldWide (c .first-wide .result) ≡ firstWide (encoderView e .channels) (encoderView e .lms)
 said c = c .first-wide .ensures ∙ wide-view (c .before .before .before .before .args .e)
 
 cast-channels : tie.Need-cast-channels
 cast-channels c = search needs
 
 first-wide-requires : tie.Need-first-wide-requires
-unfolding view
+unfolding encoderView
 first-wide-requires c κs = facts (c .before .before .before) .few-channels
 
 enum-known-channel : tie.Need-enum-known-channel
@@ -39,24 +39,24 @@ enum-told : tie.Need-enum-told
 enum-told c = search needs
 
 -- there is none
-narrow : (c : tie.After-enum-told) → let e = c .before .before .before .before .before .before .args .e in firstWide (view e .channels) (view e .lms) ≡ none
+narrow : (c : tie.After-enum-told) → let e = c .before .before .before .before .before .before .args .e in firstWide (encoderView e .channels) (encoderView e .lms) ≡ none
 narrow c = sym (said (c .before .before)) ∙ ap toldWide (c .enum-told .given .1)
 
 fits : (c : tie.After-enum-told) →
     let args = c .before .before .before .before .before .before .args in
-    FrameFits (view (args .e)) (args .samples .now) × (frameLength (view (args .e) .channels) (perChannel (view (args .e)) (args .samples .now)) ≤ length (args .out .now))
-fits c = let s = c .before .before .before .before .before .before in frame-fits (view (s .args .e)) (s .args .samples .now) (length (s .args .out .now)) (s .pre) (narrow c)
+    FrameFits (encoderView (args .e)) (args .samples .now) × (frameLength (encoderView (args .e) .channels) (perChannel (encoderView (args .e)) (args .samples .now)) ≤ length (args .out .now))
+fits c = let s = c .before .before .before .before .before .before in frame-fits (encoderView (s .args .e)) (s .args .samples .now) (length (s .args .out .now)) (s .pre) (narrow c)
 
 put-frame-requires : tie.Need-put-frame-requires
-unfolding view
+unfolding encoderView
 put-frame-requires c κs = let f = fits (c .before) in (f .0, omega (arith, f .1))
 
 div-frame-length : tie.Need-div-frame-length
-unfolding view
+unfolding encoderView
 div-frame-length c = fits (c .before .before .before .before) .0 .some-channels
 
 frame-length-requires : tie.Need-frame-length-requires
-unfolding view
+unfolding encoderView
 frame-length-requires c κs = let f = fits (c .before .before .before .before) .0 in (omega (arith, f .few-channels), omega (arith, f .few-samples))
 
 returns : tie.Need-returns
@@ -68,7 +68,7 @@ same-length : tie.Need-same-length
 same-length c = search needs
 
 returns-2 : tie.Need-returns-2
-unfolding view
+unfolding encoderView
 returns-2 c =
     let put = c .before .before .before in
     let told = put .before .before in

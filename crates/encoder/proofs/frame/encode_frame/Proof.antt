@@ -1,7 +1,7 @@
 -- `encoder::frame::encode_frame` meets its contract, by those of its parts. Assumes nothing.
 use borrow.Author.Needs.{needs}
 use mathlib.Core.Path.{refl, ap, sym, _∙_}
-use Rattle.header.specs.Refusals.{toldChecked}
+use Rattle.refusal.specs.Refusals.{toldChecked}
 use Rattle.encoder.proofs.Done.{frame-refused}
 use Rattle.encoder.proofs.frame.encode_frame.Statement.{statement}
 use Rattle.encoder.proofs.frame.encode_frame.Tie as tie

@@ -5,9 +5,9 @@ use Prim.Native.Nat.{_+_, _*_, _/_, _≤_, _<_}
 use native.Mathlib.Omega.{arith}
 use lib.ListN.{length}
 use Rattle.word.proofs.BytesLaws.{length-put}
-use Rattle.header.specs.Format.{frameLength, maxChannels, mostRate, stateEnd}
-use Rattle.header.specs.Predictor.{lmsOf}
-use Rattle.encoder.specs.Encoder.{view}
+use Rattle.format.specs.Format.{frameLength, maxChannels, mostRate, stateEnd}
+use Rattle.format.specs.Predictor.{lmsOf}
+use Rattle.encoder.specs.Encoder.{encoderView}
 use Rattle.encoder.proofs.Frames.{after-of, frame-of, frame-over, frame-small, frame-within}
 use Rattle.body.proofs.Laids.{length-states}
 use Rattle.body.proofs.Overlays.{length-over}
@@ -19,7 +19,7 @@ fits : (c : tie.Start) →
     let channels = c .args .e .channels in
     let n = length (c .args .samples .now) / channels in
     (0 < channels) × (channels ≤ maxChannels) × (c .args .e .rate ≤ mostRate) × (n * channels ≡ length (c .args .samples .now)) × (n ≤ 5120) × (c .args .at + frameLength channels n ≤ length (c .args .out .now))
-unfolding view
+unfolding encoderView
 fits c =
     let f = c .pre .0 in
     (f .some-channels, f .few-channels, f .rate-fits, f .whole, f .few-samples, c .pre .1)

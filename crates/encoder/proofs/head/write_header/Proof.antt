@@ -4,15 +4,15 @@ use borrow.Author.Tests.{not-false, not-true}
 use mathlib.Core.Path.{_≡_, sym, _∙_}
 use mathlib.Core.Bool.{true}
 use native.Mathlib.Omega.{arith}
-use Rattle.word.proofs.Rules.{fires, none-fires}
+use Rattle.refusal.proofs.Rules.{fires, none-fires}
 use Rattle.word.proofs.Tests.{tests}
-use Rattle.encoder.specs.Encoder.{goodEncoder, view}
+use Rattle.encoder.specs.Encoder.{goodEncoder, encoderView}
 use Rattle.encoder.specs.Head.{headRules}
 use Rattle.encoder.proofs.Done.{bad-first, good-first, head-done, head-refused}
 use Rattle.encoder.proofs.head.write_header.Statement.{statement}
 use Rattle.encoder.proofs.head.write_header.Tie as tie
 
-passes : (c : tie.Else1) → goodEncoder (view (c .before .before .before .args .e)) ≡ true
+passes : (c : tie.Else1) → goodEncoder (encoderView (c .before .before .before .args .e)) ≡ true
 passes c = sym (c .before .is-good-encoder .ensures) ∙ not-false _ (c .if1 .left)
 
 is-good-encoder-requires : tie.Need-is-good-encoder-requires
@@ -33,7 +33,7 @@ same-length : tie.Need-same-length
 same-length c = search needs
 
 returns-3 : tie.Need-returns-3
-unfolding headRules view
+unfolding headRules encoderView
 returns-3 c =
     let put = c .before .before in
     head-done _ _ _ (good-first _ _ (passes (put .before .before .before)) ∙ none-fires _ (omega (arith, tests))) (put .put-head .ensures)

@@ -8,10 +8,11 @@ use Prim.Native.Nat.{ℕ, _-_, _≤_}
 use native.Mathlib.Numerals.{add-one}
 use native.Mathlib.Omega.{arith}
 use Rattle.lms.specs.declared.QoaLms.{QoaLms}
-use Rattle.header.specs.Predictor.{lmsOf}
-use Rattle.state.specs.States.{below, historyRule}
-use Rattle.state.proofs.Belows.{below-false, below-more}
+use Rattle.format.specs.Predictor.{lmsOf}
+use Rattle.word.specs.Below.{below}
+use Rattle.lms.specs.Predictor.{historyRule}
 use Rattle.encoder.proofs.rules.are_good_histories.Statement.{statement}
+use Rattle.word.proofs.Belows.{below-false, below-more}
 use Rattle.encoder.proofs.rules.are_good_histories.Tie as tie
 
 -- of one channel

@@ -2,33 +2,33 @@
 use borrow.Author.Needs.{needs}
 use mathlib.Core.Path.{sym, _∙_}
 use native.Mathlib.Omega.{arith}
-use Rattle.state.proofs.Belows.{fails}
-use Rattle.encoder.specs.Encoder.{view}
+use Rattle.word.proofs.Belows.{fails}
+use Rattle.encoder.specs.Encoder.{encoderView}
 use Rattle.encoder.proofs.GoodEncoders.{good-by, good-facts}
 use Rattle.encoder.proofs.rules.is_good_encoder.Statement.{statement}
 use Rattle.encoder.proofs.rules.is_good_encoder.Tie as tie
 
 returns : tie.Need-returns
-unfolding view
+unfolding encoderView
 returns c = sym (fails _ (λ t. let g = good-facts _ t in absurd (omega arith)))
 
 cast-if2 : tie.Need-cast-if2
 cast-if2 c = search needs
 
 returns-2 : tie.Need-returns-2
-unfolding view
+unfolding encoderView
 returns-2 c = sym (fails _ (λ t. let g = good-facts _ t in absurd (omega arith)))
 
 returns-3 : tie.Need-returns-3
-unfolding view
+unfolding encoderView
 returns-3 c = sym (fails _ (λ t. let g = good-facts _ t in absurd (omega arith)))
 
 returns-4 : tie.Need-returns-4
-unfolding view
+unfolding encoderView
 returns-4 c = sym (fails _ (λ t. let g = good-facts _ t in absurd (omega arith)))
 
 returns-5 : tie.Need-returns-5
-unfolding view
+unfolding encoderView
 returns-5 c = sym (fails _ (λ t. let g = good-facts _ t in absurd (omega arith)))
 
 cast-are-good-histories : tie.Need-cast-are-good-histories

@@ -3,8 +3,8 @@ use borrow.Author.Needs.{needs}
 use mathlib.Core.Path.{ap, sym, _∙_}
 use Prim.Native.Nat.{ℕ}
 use native.Mathlib.Omega.{arith}
-use Rattle.word.specs.Rules.{Answer, good}
-use Rattle.word.proofs.Rules.{good-after, refused-at}
+use Rattle.refusal.specs.Rules.{Answer, good}
+use Rattle.refusal.proofs.Rules.{good-after, refused-at}
 use Rattle.word.proofs.Tests.{tests}
 use Rattle.oneshot.specs.OneShot.{needRules}
 use Rattle.oneshot.proofs.need.encode_need.Statement.{statement}

@@ -3,7 +3,7 @@ use borrow.Author.Needs.{needs}
 use Prim.Native.Nat.{_*_, _≤_}
 use native.Mathlib.Nat.{mul-le-mul}
 use native.Mathlib.Omega.{arith}
-use Rattle.header.specs.Format.{slicesOf, stateEnd}
+use Rattle.format.specs.Format.{slicesOf, stateEnd}
 use Rattle.oneshot.specs.OneShot.{framesIn, needOf}
 use Rattle.oneshot.proofs.need.file_need.Statement.{statement}
 use Rattle.oneshot.proofs.need.file_need.Tie as tie

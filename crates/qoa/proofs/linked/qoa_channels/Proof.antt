@@ -5,12 +5,12 @@ use native.Mathlib.Omega.{arith}
 use denote.Ref.{now}
 use lib.IntN.{ℤ}
 use mir.Syntax.{w64}
-use Rattle.word.specs.Rules.{Answer, good, _then_}
+use Rattle.refusal.specs.Rules.{Answer, good, _then_}
 use Rattle.wrap.proofs.Integers.{returned, read-pos}
-use Rattle.format.specs.Reader.{audioIn}
-use Rattle.whole.specs.Told.{toldNeed}
-use Rattle.whole.specs.declared.answer.Summary.{Summary}
-use Rattle.whole.specs.declared.answer.NeedAnswer.{NeedAnswer}
+use Rattle.file.specs.Whole.{audioIn}
+use Rattle.refusal.specs.Refusals.{toldSummary}
+use Rattle.refusal.specs.declared.Summary.{Summary}
+use Rattle.refusal.specs.declared.SummaryAnswer.{SummaryAnswer}
 use Rattle.codes.specs.Codes.{coded}
 use Rattle.qoa.proofs.Codes.{part-of}
 use Rattle.qoa.proofs.linked.qoa_channels.Statement.{statement}
@@ -39,13 +39,13 @@ returns : tie.Need-returns
 returns c =
     returned w64 (c .minus .result) (c .minus .ok)
     (c .minus .ensures
-    ∙ ap (λ (a : NeedAnswer). part (toldNeed a)) (sym (c .before .before .r .given .1))
+    ∙ ap (λ (a : SummaryAnswer). part (toldSummary a)) (sym (c .before .before .r .given .1))
     ∙ part-of (λ s. s .channels) (audioIn (now (c .before .before .before .before .before .before .args .bytes))) _ (c .before .before .before .before .decode-need .ensures))
 
 returns-2 : tie.Need-returns-2
 returns-2 c =
     read-pos w64 _ (omega arith)
-    ∙ ap (λ (a : NeedAnswer). part (toldNeed a)) (sym (c .before .before .summary .given .1))
+    ∙ ap (λ (a : SummaryAnswer). part (toldSummary a)) (sym (c .before .before .summary .given .1))
     ∙ part-of (λ s. s .channels) (audioIn (now (c .before .before .before .before .before .before .args .bytes))) _ (c .before .before .before .before .decode-need .ensures)
 
 pub qoa-channels-spec : {M : Type 1} → statement M

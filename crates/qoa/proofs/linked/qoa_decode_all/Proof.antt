@@ -6,12 +6,12 @@ use denote.Ref.{now}
 use lib.IntN.{ℤ}
 use lib.ListN.{length}
 use mir.Syntax.{w64}
-use Rattle.word.specs.Rules.{Answer, good, _then_}
+use Rattle.refusal.specs.Rules.{Answer, good, _then_}
 use Rattle.wrap.proofs.Integers.{returned}
-use Rattle.format.specs.Reader.{decode}
-use Rattle.whole.specs.Told.{toldDecoded}
-use Rattle.whole.specs.declared.answer.Summary.{Summary}
-use Rattle.whole.specs.declared.answer.DecodeAnswer.{DecodeAnswer}
+use Rattle.file.specs.Whole.{decode}
+use Rattle.refusal.specs.Refusals.{toldSummary}
+use Rattle.refusal.specs.declared.Summary.{Summary}
+use Rattle.refusal.specs.declared.SummaryAnswer.{SummaryAnswer}
 use Rattle.codes.specs.Codes.{coded}
 use Rattle.qoa.proofs.Codes.{part-of}
 use Rattle.qoa.proofs.Fitting.{decoded-fits}
@@ -21,8 +21,8 @@ use Rattle.qoa.proofs.linked.qoa_decode_all.Tie as tie
 decode-all-requires : tie.Need-decode-all-requires
 decode-all-requires c κs = search needs
 
-enum-known-r : tie.Need-enum-known-r
-enum-known-r c = search needs
+enum-known-why : tie.Need-enum-known-why
+enum-known-why c = search needs
 
 minus-requires : tie.Need-minus-requires
 minus-requires c κs = search needs
@@ -34,7 +34,7 @@ count-requires : tie.Need-count-requires
 count-requires c κs =
     let call = c .before .before .before .before in
     let start = c .before .before .before .before .before .before .before in
-    let fits = decoded-fits (length (now (start .args .out))) (now (start .args .bytes)) _ (sym (call .decode-all .ensures .0) ∙ ap toldDecoded (c .before .summary .given .1)) in
+    let fits = decoded-fits (length (now (start .args .out))) (now (start .args .bytes)) _ (sym (call .decode-all .ensures .0) ∙ ap toldSummary (c .before .summary .given .1)) in
     omega arith
 
 -- the code of what the summary tells
@@ -48,7 +48,7 @@ returns : tie.Need-returns
 returns c = (
   returned w64 (c .minus .result) (c .minus .ok)
       (c .minus .ensures
-      ∙ ap (λ (a : DecodeAnswer). part (toldDecoded a)) (sym (c .before .before .r .given .1))
+      ∙ ap (λ (a : SummaryAnswer). part (toldSummary a)) (sym (c .before .before .why .given .1))
       ∙ part-of (λ s. s .count) (decode (length (now (c .before .before .before .before .before .before .before .before .args .out))) (now (c .before .before .before .before .before .before .before .before .args .bytes))) _ (c .before .before .before .before .before .decode-all .ensures .0)),
   c .before .before .before .before .before .decode-all .ensures .1,
 )
@@ -60,7 +60,7 @@ returns-2 : tie.Need-returns-2
 returns-2 c = (
   returned w64 (c .count .result) (c .count .ok)
       (c .count .ensures
-      ∙ ap (λ (a : DecodeAnswer). part (toldDecoded a)) (sym (c .before .before .summary .given .1))
+      ∙ ap (λ (a : SummaryAnswer). part (toldSummary a)) (sym (c .before .before .summary .given .1))
       ∙ part-of (λ s. s .count) (decode (length (now (c .before .before .before .before .before .before .before .before .args .out))) (now (c .before .before .before .before .before .before .before .before .args .bytes))) _ (c .before .before .before .before .before .decode-all .ensures .0)),
   c .before .before .before .before .before .decode-all .ensures .1,
 )
@@ -70,7 +70,7 @@ qoa-decode-all-spec =
     tie.close
     (tie.spec
     decode-all-requires
-    enum-known-r
+    enum-known-why
     minus-requires
     enum-known-summary
     count-requires

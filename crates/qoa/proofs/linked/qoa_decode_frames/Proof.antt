@@ -6,8 +6,8 @@ use denote.Ref.{now}
 use lib.ListN.{length}
 use mir.Syntax.{w64}
 use Rattle.wrap.proofs.Integers.{returned}
-use Rattle.survey.specs.Told.{toldFrames}
-use Rattle.survey.specs.declared.FramesAnswer.{FramesAnswer}
+use Rattle.refusal.specs.Refusals.{toldCount}
+use Rattle.refusal.specs.declared.CountAnswer.{CountAnswer}
 use Rattle.codes.specs.Codes.{coded}
 use Rattle.qoa.proofs.Fitting.{streamed-fits}
 use Rattle.qoa.proofs.linked.qoa_decode_frames.Statement.{statement}
@@ -29,7 +29,7 @@ count-requires : tie.Need-count-requires
 count-requires c κs =
     let call = c .before .before .before .before in
     let start = c .before .before .before .before .before .before .before in
-    let fits = streamed-fits (length (now (start .args .out))) (now (start .args .bytes)) _ (sym (call .decode-frames .ensures .0) ∙ ap toldFrames (c .before .n .given .1)) in
+    let fits = streamed-fits (length (now (start .args .out))) (now (start .args .bytes)) _ (sym (call .decode-frames .ensures .0) ∙ ap toldCount (c .before .n .given .1)) in
     omega arith
 
 same-length : tie.Need-same-length
@@ -39,7 +39,7 @@ returns : tie.Need-returns
 returns c = (
   returned w64 (c .minus .result) (c .minus .ok)
       (c .minus .ensures
-      ∙ ap (λ (a : FramesAnswer). coded (toldFrames a)) (sym (c .before .before .r .given .1))
+      ∙ ap (λ (a : CountAnswer). coded (toldCount a)) (sym (c .before .before .r .given .1))
       ∙ ap coded (c .before .before .before .before .before .decode-frames .ensures .0)),
   c .before .before .before .before .before .decode-frames .ensures .1,
 )
@@ -51,7 +51,7 @@ returns-2 : tie.Need-returns-2
 returns-2 c = (
   returned w64 (c .count .result) (c .count .ok)
       (c .count .ensures
-      ∙ ap (λ (a : FramesAnswer). coded (toldFrames a)) (sym (c .before .before .n .given .1))
+      ∙ ap (λ (a : CountAnswer). coded (toldCount a)) (sym (c .before .before .n .given .1))
       ∙ ap coded (c .before .before .before .before .before .decode-frames .ensures .0)),
   c .before .before .before .before .before .decode-frames .ensures .1,
 )

@@ -5,9 +5,9 @@ use mathlib.Core.Path.{sym, ap, _∙_}
 use native.Mathlib.Omega.{arith}
 use lib.IntN.{ℤ}
 use mir.Syntax.{w64}
-use Rattle.word.specs.Rules.{Answer, good, _then_}
+use Rattle.refusal.specs.Rules.{Answer, good, _then_}
 use Rattle.wrap.proofs.Integers.{read-pos, returned}
-use Rattle.header.specs.declared.facts.Facts.{Facts}
+use Rattle.format.specs.declared.facts.Facts.{Facts}
 use Rattle.state.specs.Facts.{toldFacts}
 use Rattle.state.specs.declared.FactsAnswer.{FactsAnswer}
 use Rattle.codes.specs.Codes.{coded}

@@ -5,9 +5,9 @@ use native.Mathlib.Omega.{arith}
 use denote.Ref.{now}
 use mir.Syntax.{w64}
 use Rattle.wrap.proofs.Integers.{returned}
-use Rattle.header.specs.Part.{toldPart}
-use Rattle.header.specs.declared.part.PartAnswer.{PartAnswer}
-use Rattle.header.proofs.Parts.{part-within}
+use Rattle.refusal.specs.Refusals.{toldCount}
+use Rattle.refusal.specs.declared.CountAnswer.{CountAnswer}
+use Rattle.format.proofs.Parts.{part-within}
 use Rattle.codes.specs.Codes.{coded}
 use Rattle.qoa.proofs.linked.qoa_part_length.Statement.{statement}
 use Rattle.qoa.proofs.linked.qoa_part_length.Tie as tie
@@ -27,21 +27,21 @@ enum-known-n c = search needs
 count-requires : tie.Need-count-requires
 count-requires c κs =
     let call = c .before .before .before in
-    let within = part-within (now (call .before .before .args .bytes)) _ _ (sym (call .part-length .ensures) ∙ ap toldPart (c .before .n .given .1)) in
+    let within = part-within (now (call .before .before .args .bytes)) _ _ (sym (call .part-length .ensures) ∙ ap toldCount (c .before .n .given .1)) in
     omega arith
 
 returns : tie.Need-returns
 returns c =
     returned w64 (c .minus .result) (c .minus .ok)
     (c .minus .ensures
-    ∙ ap (λ (a : PartAnswer). coded (toldPart a)) (sym (c .before .before .r .given .1))
+    ∙ ap (λ (a : CountAnswer). coded (toldCount a)) (sym (c .before .before .r .given .1))
     ∙ ap coded (c .before .before .before .before .part-length .ensures))
 
 returns-2 : tie.Need-returns-2
 returns-2 c =
     returned w64 (c .count .result) (c .count .ok)
     (c .count .ensures
-    ∙ ap (λ (a : PartAnswer). coded (toldPart a)) (sym (c .before .before .n .given .1))
+    ∙ ap (λ (a : CountAnswer). coded (toldCount a)) (sym (c .before .before .n .given .1))
     ∙ ap coded (c .before .before .before .before .part-length .ensures))
 
 pub qoa-part-length-spec : {M : Type 1} → statement M

@@ -7,7 +7,7 @@ use lib.Dec.{T, ltb→lt}
 use lib.IntN.{ℤ, pos, negsuc}
 use lib.Signed.{ltZ}
 use mir.Facts.{toZ-ofZ}
-use Rattle.scale.specs.Quick.{halfOf}
+use Rattle.scale.specs.Parts.{halfOf}
 use Rattle.scale.proofs.quick.half.Statement.{statement}
 use Rattle.scale.proofs.quick.half.Tie as tie
 

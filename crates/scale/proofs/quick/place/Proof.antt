@@ -11,7 +11,7 @@ use mir.Val.{toZ}
 use mir.Facts.{toZ-ofZ}
 use Rattle.wrap.specs.Wrap.{low32}
 use Rattle.wrap.proofs.Modulo.{add-low, modulo-pos}
-use Rattle.scale.specs.Quick.{quickPlace}
+use Rattle.scale.specs.Parts.{quickPlace}
 use Rattle.scale.proofs.QuickRows.{place-of}
 use Rattle.scale.proofs.quick.place.Statement.{statement}
 use Rattle.scale.proofs.quick.place.Tie as tie

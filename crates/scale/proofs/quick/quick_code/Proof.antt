@@ -12,7 +12,7 @@ use mir.Facts.{toZ-ofZ}
 use Rattle.wrap.specs.Wrap.{wrap32}
 use Rattle.wrap.proofs.Integers.{returned}
 use Rattle.scale.specs.Division.{shifted}
-use Rattle.scale.specs.Quick.{halfOf, quickPlace}
+use Rattle.scale.specs.Parts.{halfOf, quickPlace}
 use Rattle.scale.proofs.QuickRows.{code-there, reciprocal-entry, there-lt}
 use Rattle.scale.proofs.quick.quick_code.Statement.{statement}
 use Rattle.scale.proofs.quick.quick_code.Tie as tie

@@ -1,7 +1,7 @@
 -- `scale::quick_codes` meets its contract: the list is compared.
 -- Assumes nothing.
 use mathlib.Core.Path.{refl}
-use Rattle.scale.specs.Quick.{quickCodes}
+use Rattle.scale.specs.Parts.{quickCodes}
 use Rattle.scale.proofs.quick.quick_codes.Statement.{statement}
 use Rattle.scale.proofs.quick.quick_codes.Tie as tie
 

@@ -13,7 +13,7 @@ use mir.Val.{SFits}
 use mir.Facts.{toZ-ofZ}
 use Rattle.wrap.proofs.Elements.{placed}
 use Rattle.wrap.proofs.Integers.{fits-abs, reread, returned}
-use Rattle.scale.specs.Quick.{quickCodes, quickRow}
+use Rattle.scale.specs.Parts.{quickCodes, quickRow}
 use Rattle.scale.specs.Tables.{rowOf}
 use Rattle.scale.proofs.Bounds.{row-small}
 use Rattle.scale.proofs.QuickRows.{quick-code-lt, quick-length, row-entry}

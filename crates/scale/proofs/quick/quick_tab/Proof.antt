@@ -8,7 +8,7 @@ use lib.IntN.{ℤ}
 use lib.ListN.{length, getD, length-set}
 use lib.Seq.{ext-getD}
 use Rattle.wrap.proofs.Elements.{placed}
-use Rattle.scale.specs.Quick.{quickRow, quickTab}
+use Rattle.scale.specs.Parts.{quickRow, quickTab}
 use Rattle.scale.proofs.Rules.{tab-row}
 use Rattle.scale.proofs.QuickRows.{quick-tab-length, quick-tab-row}
 use Rattle.scale.proofs.quick.quick_tab.Statement.{statement}

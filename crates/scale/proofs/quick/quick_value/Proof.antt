@@ -15,7 +15,7 @@ use mir.Facts.{toZ-ofZ}
 use Rattle.wrap.specs.Wrap.{wrap32}
 use Rattle.wrap.proofs.Integers.{fits-of, returned, widen-back, widen-fits}
 use Rattle.scale.specs.Division.{shifted}
-use Rattle.scale.specs.Quick.{halfOf, quickPlace}
+use Rattle.scale.specs.Parts.{halfOf, quickPlace}
 use Rattle.scale.proofs.QuickRows.{half-entry, half-le, half-long, quick-length, quick-place-lt, reciprocal-entry, value-there}
 use Rattle.scale.proofs.quick.quick_value.Statement.{statement}
 use Rattle.scale.proofs.quick.quick_value.Tie as tie

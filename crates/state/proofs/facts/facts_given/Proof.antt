@@ -4,8 +4,8 @@ use borrow.Author.Tests.{not-false, not-true}
 use mathlib.Core.Path.{_≡_, ap, sym, _∙_}
 use mathlib.Core.Bool.{true}
 use lib.ListN.{length}
-use Rattle.word.specs.Rules.{Answer, good}
-use Rattle.header.specs.declared.facts.Facts.{Facts}
+use Rattle.refusal.specs.Rules.{Answer, good}
+use Rattle.format.specs.declared.facts.Facts.{Facts}
 use Rattle.state.specs.View.{view}
 use Rattle.state.specs.States.{goodState}
 use Rattle.state.specs.Facts.{factsFor}

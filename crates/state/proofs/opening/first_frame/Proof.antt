@@ -6,11 +6,11 @@ use mathlib.Core.Option.{none}
 use Prim.Native.Nat.{ℕ, _-_, _≤_}
 use native.Mathlib.Omega.{arith}
 use lib.ListN.{length}
-use Rattle.word.specs.Rules.{firstOf}
-use Rattle.header.specs.Format.{stateEnd}
-use Rattle.header.specs.Refusals.{toldChecked}
-use Rattle.header.specs.Header.{headerAt, headerRules}
-use Rattle.header.specs.declared.frame.FrameHeader.{FrameHeader}
+use Rattle.refusal.specs.Rules.{firstOf}
+use Rattle.format.specs.Format.{stateEnd}
+use Rattle.refusal.specs.Refusals.{toldChecked}
+use Rattle.format.specs.Header.{headerAt, headerRules}
+use Rattle.format.specs.declared.frame.FrameHeader.{FrameHeader}
 use Rattle.state.proofs.Openings.{bad-first, cut-first, no-first, whole-first}
 use Rattle.state.proofs.opening.first_frame.Statement.{statement}
 use Rattle.state.proofs.opening.first_frame.Tie as tie

@@ -3,7 +3,7 @@ use borrow.Author.Needs.{needs}
 use native.Mathlib.Omega.{arith}
 use mathlib.Core.Path.{_≡_, refl, ap, _∙_}
 use lib.ListN.{length}
-use Rattle.header.specs.Format.{stateEnd}
+use Rattle.format.specs.Format.{stateEnd}
 use Rattle.state.specs.Opening.{zeroState}
 use Rattle.state.specs.declared.QoaDecoder.{QoaDecoder}
 use Rattle.state.proofs.Openings.{fixed-view}

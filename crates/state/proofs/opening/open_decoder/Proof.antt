@@ -4,13 +4,15 @@ use mathlib.Core.Path.{_≡_, sym, ap, _∙_}
 use mathlib.Core.List.{List}
 use mathlib.Core.Option.{none}
 use Prim.Native.Nat.{ℕ}
-use Rattle.word.specs.Rules.{Answer, after, firstOf, good}
-use Rattle.word.proofs.Rules.{after-good, after-refused, good-same, none-fires}
-use Rattle.header.specs.FileHeader.{fileHeader, toldFile}
-use Rattle.header.specs.Header.{headerAt, toldHeader}
+use Rattle.refusal.specs.Rules.{Answer, after, firstOf, good}
+use Rattle.refusal.proofs.Rules.{after-good, after-refused, good-same, none-fires}
+use Rattle.word.proofs.BytesLaws.{be-lt-bits}
+use Rattle.format.specs.FileHeader.{fileHeader}
+use Rattle.format.specs.Header.{headerAt, toldHeader}
 use Rattle.state.specs.Opening.{firstRules}
 use Rattle.state.proofs.Openings.{file-refused, file-total, first-facts, fixed-rules, opens-good, opens-refused, stream-rules}
 use Rattle.state.proofs.opening.open_decoder.Statement.{statement}
+use Rattle.refusal.specs.Refusals.{toldCount}
 use Rattle.state.proofs.opening.open_decoder.Tie as tie
 
 -- the bytes, and the file header's total
@@ -21,7 +23,7 @@ abbrev total : tie.After-total → ℕ
 total c = c .total .given .0 .0
 
 file-said : (c : tie.After-total) → fileHeader (bytes c) ≡ good (total c)
-file-said c = sym (c .before .before .file-header .ensures) ∙ ap toldFile (c .total .given .1)
+file-said c = sym (c .before .before .file-header .ensures) ∙ ap toldCount (c .total .given .1)
 
 -- a good first frame
 abbrev file : tie.After-h → tie.After-total
@@ -69,6 +71,13 @@ refused-open-requires-2 c κs = search needs
 enum-known-h : tie.Need-enum-known-h
 enum-known-h c = search needs
 
+-- a total of four bytes is one of 32 bits
+cast-fixed-state : tie.Need-cast-fixed-state
+cast-fixed-state c =
+    let f = file (c .before) in
+    let same = file-total (bytes f) (total f) (file-said f) in
+    record { fits = rw (sym same) (be-lt-bits 4 (bytes f) 4 (λ i. f .before .before .before .shared-slice-known .given i .fits)) }
+
 fixed-state-requires : tie.Need-fixed-state-requires
 fixed-state-requires c κs =
     let h = c .before in
@@ -80,7 +89,7 @@ returns-2 c =
     let r = c .before .before in
     let bs = r .before .before .before .before .args .bytes .now in
     rw (c .refused-open .ensures .0)
-    (opens-refused bs (r .r .given .0 .0) (c .refused-open .result .state) (file-refused bs _ (sym (r .before .before .file-header .ensures) ∙ ap toldFile (r .r .given .1))) (c .refused-open .ensures .1))
+    (opens-refused bs (r .r .given .0 .0) (c .refused-open .result .state) (file-refused bs _ (sym (r .before .before .file-header .ensures) ∙ ap toldCount (r .r .given .1))) (c .refused-open .ensures .1))
 
 returns-3 : tie.Need-returns-3
 returns-3 c =
@@ -114,6 +123,7 @@ open-decoder-spec =
     enum-known-r-2
     refused-open-requires-2
     enum-known-h
+    cast-fixed-state
     fixed-state-requires
     returns-2
     returns-3

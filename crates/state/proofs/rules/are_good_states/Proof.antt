@@ -6,10 +6,12 @@ use mathlib.Core.Bool.{true}
 use Prim.Native.Nat.{_-_, _≤_}
 use native.Mathlib.Numerals.{add-one}
 use native.Mathlib.Omega.{arith}
-use Rattle.state.specs.States.{below, historyRule, lmsRule}
-use Rattle.state.proofs.Belows.{and-both, below-false, below-more}
+use Rattle.state.specs.States.{lmsRule}
+use Rattle.word.specs.Below.{below}
 use Rattle.state.proofs.GoodStates.{channelRule}
 use Rattle.state.proofs.rules.are_good_states.Statement.{statement}
+use Rattle.lms.specs.Predictor.{historyRule}
+use Rattle.word.proofs.Belows.{and-both, below-false, below-more}
 use Rattle.state.proofs.rules.are_good_states.Tie as tie
 
 abbrev Inv-loop : tie.InvT-loop

@@ -14,9 +14,10 @@ use mir.Syntax.{w32}
 use mir.Facts.{toZ-ofZ}
 use Rattle.wrap.proofs.Integers.{fits-of}
 use Rattle.lms.specs.Predictor.{at}
-use Rattle.state.specs.States.{below, weightRule}
-use Rattle.state.proofs.Belows.{below-false, below-more}
+use Rattle.state.specs.States.{weightRule}
+use Rattle.word.specs.Below.{below}
 use Rattle.state.proofs.rules.are_good_weights.Statement.{statement}
+use Rattle.word.proofs.Belows.{below-false, below-more}
 use Rattle.state.proofs.rules.are_good_weights.Tie as tie
 
 -- of the weight at a place

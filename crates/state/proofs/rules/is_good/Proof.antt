@@ -5,10 +5,10 @@ use mathlib.Core.Path.{_≡_, sym, _∙_}
 use mathlib.Core.Bool.{Bool, true, false, _&&_}
 use Prim.Native.Nat.{_*_}
 use lib.Dec.{leb}
-use Rattle.header.specs.Format.{maxChannels}
+use Rattle.format.specs.Format.{maxChannels}
 use Rattle.state.specs.States.{modeRule, someChannels}
 use Rattle.state.specs.declared.QoaDecoder.{QoaDecoder}
-use Rattle.state.proofs.Belows.{and-left}
+use Rattle.word.proofs.Belows.{and-left}
 use Rattle.state.proofs.GoodStates.{good-view}
 use Rattle.state.proofs.rules.is_good.Statement.{statement}
 use Rattle.state.proofs.rules.is_good.Tie as tie

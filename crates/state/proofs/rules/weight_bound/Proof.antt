@@ -3,7 +3,7 @@ use borrow.Author.Needs.{needs}
 use native.Mathlib.Omega.{arith}
 use mathlib.Core.Path.{ap}
 use Prim.Native.Nat.{ℕ, _+_, _-_, _*_, _≤_}
-use Rattle.header.specs.Format.{slicesOf}
+use Rattle.format.specs.Format.{slicesOf}
 use Rattle.state.specs.States.{weightBound}
 use Rattle.state.proofs.rules.weight_bound.Statement.{statement}
 use Rattle.state.proofs.rules.weight_bound.Tie as tie

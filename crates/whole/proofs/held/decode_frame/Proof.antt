@@ -12,10 +12,10 @@ use Rattle.lms.specs.declared.QoaLms.{QoaLms}
 use Rattle.lms.proofs.Bounds.{within-more}
 use Rattle.word.specs.Written.{written}
 use Rattle.word.proofs.Writes.{written-list}
-use Rattle.header.specs.Format.{frameLength, stateEnd}
-use Rattle.header.proofs.Headers.{frame-long}
+use Rattle.format.specs.Format.{frameLength, stateEnd}
+use Rattle.format.proofs.Headers.{frame-long}
 use Rattle.groups.specs.Groups.{groupsAt}
-use Rattle.format.proofs.Places.{StatesAt, frame-here, states-read, states-within}
+use Rattle.file.proofs.Places.{StatesAt, frame-here, states-read, states-within}
 use Rattle.whole.proofs.held.decode_frame.Statement.{statement}
 use Rattle.whole.proofs.held.decode_frame.Tie as tie
 

@@ -6,7 +6,7 @@ use mathlib.Core.Path.{sym}
 use native.Mathlib.Omega.{arith}
 use denote.Ref.{now}
 use lib.ListN.{length}
-use Rattle.format.proofs.Frames.{frame-eight}
+use Rattle.file.proofs.Frames.{frame-eight}
 use Rattle.whole.proofs.Decoding.{Decoded, HereOn, decoded-end, decoded-more, decoded-start, here-on}
 use Rattle.whole.proofs.held.decode_held.Statement.{statement}
 use Rattle.whole.proofs.held.decode_held.Tie as tie

@@ -12,13 +12,13 @@ use mir.Val.{toZ}
 use mir.Facts.{toZ-ofZ}
 use Rattle.wrap.proofs.Integers.{fits-of}
 use Rattle.word.specs.Written.{written}
-use Rattle.word.specs.Little.{sampleAt}
+use Rattle.word.specs.Little.{leSample}
 use Rattle.word.proofs.Writes.{length-written}
 use Rattle.word.proofs.little.read_samples.Statement.{statement}
 use Rattle.word.proofs.little.read_samples.Tie as tie
 
 abbrev Inv-loop : tie.InvT-loop
-Inv-loop bytes out₀ i₀ i-end out i = (i ≤ i-end) × (i-end ≡ length out₀) × (out ≡ written (λ k. sampleAt bytes (k * 2)) out₀ 0 1 i)
+Inv-loop bytes out₀ i₀ i-end out i = (i ≤ i-end) × (i-end ≡ length out₀) × (out ≡ written (λ k. leSample bytes (k * 2)) out₀ 0 1 i)
 
 abbrev μ-loop : tie.MeasureT-loop
 μ-loop bytes out₀ i₀ i-end out i = length out₀ - i
@@ -49,7 +49,7 @@ loop-less : tie.Need-loop-less Inv-loop μ-loop
 loop-less c = omega arith
 
 loop-again : tie.Need-loop-again Inv-loop μ-loop
-unfolding written sampleAt
+unfolding written leSample
 loop-again c =
     let l = c .before .before .before .loop in
     let told = toZ-ofZ (fits-of w16 (c .signed16 .result) (c .signed16 .ok)) ∙ c .signed16 .ensures ∙ ap (toZ w16) (c .before .read-u16 .ensures) in

@@ -1,0 +1,5 @@
+-- What the contracts cite, from a frame up.
+pub mod Frame
+pub mod Walk
+pub mod Whole
+pub mod Streaming

@@ -1,0 +1,29 @@
+-- What the parts of the code ask and answer. Assumes nothing.
+use Prim.Native.Nat.{ℕ, _+_, _-_, _*_, _^_}
+use mathlib.Core.List.{List}
+use lib.IntN.{ℤ}
+use mir.Syntax.{w16}
+use mir.Val.{toZ}
+use Rattle.word.specs.Written.{table}
+use Rattle.word.specs.Bytes.{put}
+use Rattle.word.specs.Word.{field}
+use Rattle.lms.specs.declared.QoaLms.{QoaLms}
+use Rattle.format.specs.FileHeader.{magic}
+use Rattle.format.specs.Predictor.{fourWord}
+use Rattle.format.specs.declared.frame.FrameHeader.{FrameHeader}
+
+-- the 64-bit word of a file header
+unfoldable pub fileWord : ℕ → ℕ
+fileWord total = magic * 2 ^ 32 + total
+
+-- the same fields of a 64-bit word
+unfoldable pub headerFields : ℕ → FrameHeader
+headerFields w = record { channels = field 8 56 w; rate = field 24 32 w; samples = field 16 16 w; size = field 16 0 w }
+
+-- the four signed 16-bit numbers of a 64-bit word, the first topmost
+unfoldable pub fourOf : ℕ → List ℤ
+fourOf w = table 4 (λ i. toZ w16 (field 16 (48 - 16 * i) w))
+
+-- `out` with the state stored at a place
+unfoldable pub putLms : List ℕ → ℕ → QoaLms → List ℕ
+putLms out p lms = put 8 (put 8 out p (fourWord (lms .history))) (p + 8) (fourWord (lms .weights))

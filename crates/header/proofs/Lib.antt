@@ -1,6 +1,0 @@
--- What the proofs of this crate and of those above it cite.
-pub mod Told
-pub mod Headers
-pub mod FileHeaders
-pub mod Parts
-pub mod Lasting

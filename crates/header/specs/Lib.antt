@@ -1,9 +1,0 @@
--- What the contracts cite, in document 01's order.
-pub mod Refusals
-pub mod Format
-pub mod FileHeader
-pub mod Header
-pub mod Predictor
-pub mod Part
-pub mod Facts
-pub mod Grammar

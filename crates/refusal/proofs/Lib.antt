@@ -1,0 +1,3 @@
+-- Laws for the crates above.
+pub mod Rules
+pub mod Told

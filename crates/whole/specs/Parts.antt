@@ -1,0 +1,30 @@
+-- Frames that a survey has passed, and what decoding them leaves in lent memory. Assumes nothing.
+use Prim.Native.Nat.{ℕ, _+_, _≤_}
+use mathlib.Core.List.{List, [], _∷_, _++_}
+use lib.Dec.{leb}
+use lib.IntN.{ℤ}
+use lib.ListN.{length, take, drop}
+use Rattle.refusal.specs.Rules.{Answer, Rule, _gives_, good, refused, _then_}
+use Rattle.format.specs.Header.{headerAt}
+use Rattle.file.specs.Walk.{WalkRules, samplesOf, walkOf}
+use Rattle.file.specs.Streaming.{freeRules}
+
+-- whole good frames, then fewer than 8 bytes
+abbrev pub shortTail : ℕ → List Rule
+shortTail left = (leb 8 left gives 5) ∷ []
+
+abbrev pub heldFrames : WalkRules
+heldFrames = record { frame = λ b. freeRules (headerAt b 0) (length b); tail = shortTail }
+
+unfoldable pub held : List ℕ → Answer (List ℤ)
+held b = walkOf heldFrames b then λ w. good (samplesOf (w .frames))
+
+-- there are such frames, and room for their samples
+abbrev pub HasRoom : Answer (List ℤ) → ℕ → Type 0
+HasRoom (refused n) room = ⊥
+HasRoom (good xs) room = length xs ≤ room
+
+-- out with the samples from the index i on
+abbrev pub keptAt : ℕ → Answer (List ℤ) → List ℤ → List ℤ
+keptAt i (refused n) out = out
+keptAt i (good xs) out = take i out ++ (xs ++ drop (i + length xs) out)
