@@ -13,7 +13,7 @@ ${CC:-cc} -std=c99 -O2 -Wall -Wextra -pedantic -Werror -I"$lib/include" "$here/c
 rustc --edition 2021 -O "$here/convert.rs" -C link-arg="$lib/libtromvask.a" -o "$out/convert-rust"
 cd "$out"
 
-# document 01's file: one mono sample at 44100 Hz, which reads as 1
+# FORMAT.md's example file: one mono sample at 44100 Hz, which reads as 1
 printf 'qoaf\0\0\0\1\1\0\254\104\0\1\0\40\0\0\0\0\0\0\0\0\0\0\0\0\340\0\100\0\0\0\0\0\0\0\0\0' >one.qoa
 printf '\1\0' >one.raw
 printf '\0\0' >zero.raw

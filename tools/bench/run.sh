@@ -19,7 +19,7 @@ for crate in $(bash "$root/tools/library/below.sh" state decoder); do
     cp -r "$root/crates/$crate" "$repo/crates/"
     grep "^$crate:" "$root/crates.txt"
 done >"$repo/crates.txt"
-echo 'blocks: state into frames decoder' >>"$repo/crates.txt"
+echo 'blocks: refusal state into frames decoder' >>"$repo/crates.txt"
 cp "$here/blocks.rt.txt" "$repo/crates/blocks/src/lib.rt"
 cp "$here/blocks_decode.antt.txt" "$repo/crates/blocks/proofs/blocks_decode/Proof.antt"
 cp -r "$root/target/rlib" "$root/target/stamp" "$repo/target/"

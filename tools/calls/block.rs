@@ -1,4 +1,4 @@
-//! States as blocks of bytes, and 01's state rules: written again from the documents, apart from the library's code.
+//! States as blocks of bytes, and the state rules: written again from docs/FORMAT.md, apart from the library's code.
 
 /// The channel limit, and the lengths of the two blocks.
 pub const LIMIT: usize = 8;
@@ -107,7 +107,7 @@ impl Decoder {
         b
     }
 
-    /// 01's rules of a decoder's state, over so many bytes.
+    /// The rules of a decoder's state, over so many bytes.
     pub fn good(&self, bytes: usize) -> bool {
         let bound = weight_bound(self.remaining);
         let fixed = self.total >= 1 && (1..=8).contains(&self.first_channels) && (1..=16777215).contains(&self.first_rate);
@@ -152,7 +152,7 @@ impl Encoder {
         b
     }
 
-    /// 01's rules of an encoder's state.
+    /// The rules of an encoder's state.
     pub fn good(&self) -> bool {
         (1..=8).contains(&self.channels)
             && (1..=16777215).contains(&self.rate)

@@ -1,5 +1,5 @@
 //! Compares calls in a row on states with the source, in one process: calls [COUNT] [SEED]. Requests are made by seed; every answer, all lent
-//! memory and the whole block after each call must be as the source and 01 say. Prints how many, or the first difference in full with status 1.
+//! memory and the whole block after each call must be as the source and docs/FORMAT.md say. Prints how many, or the first difference in full with status 1.
 #[path = "../oracle/signals.rs"]
 #[allow(dead_code)]
 mod signals;
@@ -217,7 +217,7 @@ fn each_bytes(r: &mut Random, count: usize, sink: &mut dyn FnMut(&str, &[u8], &m
     }
 }
 
-/// Any block: 8 exactly where 01's rules are broken, else what the source says, put into that state.
+/// Any block: 8 exactly where the state rules are broken, else what the source says, put into that state.
 fn any_decoder_block(bytes: &[u8], r: &mut Random, tally: &mut Tally) {
     let mut reached = Lent::room(DECODER, 0);
     let opened = port::open(bytes, &mut reached) == Said::Number(0);

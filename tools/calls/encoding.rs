@@ -17,7 +17,7 @@ pub struct Source {
     encoder: QoaEncoder,
 }
 
-/// The bytes of a frame, as 01 has them.
+/// The bytes of a frame, as docs/FORMAT.md has them.
 pub fn frame_bytes(c: usize, n: usize) -> usize {
     8 + 16 * c + 8 * c * n.div_ceil(20)
 }

@@ -1,4 +1,4 @@
-//! The source's answers, its errors as document 01's numbers.
+//! The source's answers, its errors as the refusals' numbers.
 use qoaudio::{DecodeError, ProcessingMode, QoaDecoder};
 
 fn number(e: DecodeError) -> i64 {

@@ -1,12 +1,12 @@
 """Cases of the C interface's states that the texts of states.txt and encoder.txt can't say: blocks of another length, a mode or a flag over 1,
-bytes that mean nothing, room for facts, and each order of refusals. Every answer is written here by hand, from 01 and C-INTERFACE; the block
+bytes that mean nothing, room for facts, and each order of refusals. Every answer is written here by hand, from docs/FORMAT.md and include/tromvask.h; the block
 after an accepted call is the model's.
 """
 import model
 from model import Decoder, big
 from wire import FILL, samples_of
 
-# 01's run: one mono sample 0 at 44100 Hz
+# the example file of docs/FORMAT.md: one mono sample 0 at 44100 Hz
 RUN = bytes.fromhex("716f6166000000010100ac4400010020000000000000000000000000e00040000000000000000000")
 # the same as a stream
 STREAM = RUN[:4] + bytes(4) + RUN[8:]

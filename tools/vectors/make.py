@@ -1,7 +1,7 @@
 #!/usr/bin/env python3
 """Makes crates/replay/stdin and crates/replay/stdout: requests for the program `replay`, and the answers that it must give.
 
-From vectors.txt, the source's recorded answers (`oracle vectors`), each turned into 01's numbers and words; from states.txt and
+From vectors.txt, the source's recorded answers (`oracle vectors`), each turned into the refusals' numbers and words; from states.txt and
 encoder.txt, cases written by hand; and from blocks.py, cases of blocks that only the C interface can be given. A case of several calls is
 several lines. A case that docs/DIFFERENCES.md lists is marked by a comment with its number there. The answers are those of the cases; the
 state's block after a call, which no case tells, is model.py's, which has to give every answer of a case too. Run it from the root:

@@ -1,4 +1,4 @@
-"""A small model of the states of 01, written from document 01 and C-INTERFACE's blocks, apart from the proved code: the calls on an encoder
+"""A small model of the states, written from docs/FORMAT.md and the blocks of include/tromvask.h, apart from the proved code: the calls on an encoder
 and on a decoder, and both states as blocks of bytes. make.py compares it with every recorded and hand-written answer of these calls, and
 takes from it what a case does not tell: the block after a call.
 """
@@ -14,7 +14,7 @@ NOTHING = ([0, 0, 0, 0], [0, 0, 0, 0])
 
 
 class Refused(Exception):
-    """A refusal of 01, by its number; 14 has the channel and the bytes that stand in the output."""
+    """A refusal by its number; 14 has the channel and the bytes that stand in the output."""
 
     def __init__(self, number, channel=0, out=b""):
         self.number, self.channel, self.out = number, channel, out

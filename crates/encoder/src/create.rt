@@ -14,7 +14,7 @@ use lms::QoaLms;
 use refusal::Checked;
 use refusal::Refusal;
 
-// The refusals of a creation, in document 01's order.
+// The refusals of a creation, in FORMAT.md's order.
 fn check_create(channels: u8, rate: u32, total: u32) -> Checked
     ensures { λ r. ⌜ toldChecked r ≡ firstOf (createRules channels rate total) ⌝ }
 {

@@ -28,7 +28,7 @@ use format::frame::state_end;
 use refusal::Checked;
 use refusal::Refusal;
 
-// The refusals of a frame but for 14, in document 01's order.
+// The refusals of a frame but for 14, in FORMAT.md's order.
 fn check_frame(e: QoaEncoder, samples: &[i16], room: usize) -> Checked
     ensures { λ r. ⌜ toldChecked r ≡ firstOf (encodeRules (encoderView e) (now (samples .entry)) room) ⌝ }
 {

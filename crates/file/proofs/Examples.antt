@@ -1,4 +1,4 @@
--- Worked examples of document 01, and orders of refusals, computed from the definitions. Assumes nothing.
+-- Worked examples of FORMAT.md, and orders of refusals, computed from the definitions. Assumes nothing.
 use Prim.Native.Nat.{ℕ}
 use mathlib.Core.Path.{_≡_, refl}
 use mathlib.Core.List.{List, [], _∷_, _++_, flatMap}

@@ -1,4 +1,4 @@
--- What the contracts cite, in document 01's order.
+-- What the contracts cite, in FORMAT.md's order.
 pub mod Format
 pub mod FileHeader
 pub mod Header

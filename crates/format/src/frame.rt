@@ -97,7 +97,7 @@ pub fn frame_length(channels: usize, samples: usize) -> usize
     state_end(channels) + 8 * (channels * slices_of(samples))
 }
 
-// The checks of a header, in document 01's order.
+// The checks of a header, in FORMAT.md's order.
 pub fn check_header(h: FrameHeader) -> Checked
     ensures { λ r. ⌜ toldChecked r ≡ firstOf (headerRules h) ⌝ }
 {

@@ -1,4 +1,4 @@
--- Document 01's run: one mono sample 0 at 44100 Hz is these 40 bytes. Assumes nothing.
+-- FORMAT.md's example file: one mono sample 0 at 44100 Hz is these 40 bytes. Assumes nothing.
 use mathlib.Core.Path.{_≡_, refl}
 use mathlib.Core.List.{[], _∷_}
 use lib.IntN.{pos}

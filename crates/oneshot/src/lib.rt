@@ -34,7 +34,7 @@ pub mod need;
 
 pub use need::encode_need;
 
-// The refusals of one shot but for 14, in document 01's order.
+// The refusals of one shot but for 14, in FORMAT.md's order.
 fn check_shot(e: QoaEncoder, samples: &[i16], room: usize) -> Checked
     ensures { λ r. ⌜ toldChecked r ≡ firstOf (shotRules (encoderView e) (now (samples .entry)) room) ⌝ }
 {

@@ -1,4 +1,4 @@
-// The face: every public call, in document 01's order, and the C interface.
+// Every public call, in FORMAT.md's order, and the C interface.
 pub mod linked;
 
 // Opening a decoder: the first refusal, or a state by value at the start of the file.

@@ -1,4 +1,4 @@
--- Document 01's checked numbers, proved of the definitions, in its order.
+-- FORMAT.md's checked numbers, proved of the definitions, in its order.
 -- Assumes nothing.
 use mathlib.Core.Path.{_≡_, refl}
 use mathlib.Core.List.{List, [], _∷_}

@@ -35,7 +35,7 @@ weightBound r = 32768 + 17920 * (3277 - slicesOf r)
 unfoldable pub lmsRule : ℕ → ℕ → List QoaLms → Bool
 lmsRule c bound states = below c (λ j. historyRule (lmsOf states j) && weightRule bound (lmsOf states j))
 
--- all of them, in 01's order: place at most the byte count; the mode's; c at most 8; c at least 1 where samples remain; remaining at most n;
+-- all of them, in FORMAT.md's order: place at most the byte count; the mode's; c at most 8; c at least 1 where samples remain; remaining at most n;
 -- next <= end <= 20c; the predictors'
 unfoldable pub goodState : View → ℕ → Bool
 goodState v bytes =

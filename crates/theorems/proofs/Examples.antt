@@ -1,4 +1,4 @@
--- Document 01's run, computed from the definitions: one mono sample 0 at 44100 Hz, written and read. Assumes nothing.
+-- FORMAT.md's example file, computed from the definitions: one mono sample 0 at 44100 Hz, written and read. Assumes nothing.
 use mathlib.Core.Path.{_≡_, refl}
 use mathlib.Core.List.{[], _∷_}
 use lib.IntN.{pos}

@@ -1,4 +1,4 @@
--- The files that the writer finishes, in document 01's words: their bytes, and the writer's reconstruction of them, which is of samples and starting
+-- The files that the writer finishes, in FORMAT.md's words: their bytes, and the writer's reconstruction of them, which is of samples and starting
 -- state alone. Assumes nothing.
 use Prim.Native.Nat.{ℕ}
 use mathlib.Core.Path.{_≡_}
