@@ -9,16 +9,16 @@ use borrow.Author.Tests.{eq-eqb, le-leb, lt-leb, ne-eqb}
 use lib.Dec.{eqb, leb}
 use lib.ListN.{getD, length}
 use Rattle.word.specs.Bytes.{be32}
-use Rattle.lines.specs.Parts.{isPart, partAt, Taken}
+use Rattle.lines.specs.Parts.{isPart, partAt, PartTaken}
 use Rattle.lines.specs.declared.parts.Part.{Part}
 
 module _ (ask : List ℕ) (at kind width most : ℕ) where
   -- a test that is not met
-  absent : at ≤ length ask → isPart ask at kind width most ≡ false → Taken ask at kind width most (record { from = at; count = 0; next = at })
+  absent : at ≤ length ask → isPart ask at kind width most ≡ false → PartTaken ask at kind width most (record { from = at; count = 0; next = at })
   unfolding partAt
   absent here none = record { part = simp none; count = omega arith; end = omega arith; within = here }
 
-  pub too-short : at ≤ length ask → length ask < at + 5 → Taken ask at kind width most (record { from = at; count = 0; next = at })
+  pub too-short : at ≤ length ask → length ask < at + 5 → PartTaken ask at kind width most (record { from = at; count = 0; next = at })
   unfolding isPart
   too-short here h = absent here (simp (lt-leb (at + 5) (length ask) h))
 
@@ -26,7 +26,7 @@ module _ (ask : List ℕ) (at kind width most : ℕ) where
     there : leb (at + 5) (length ask) ≡ true
     there = le-leb (at + 5) (length ask) room
 
-    pub other-kind : getD ask at 0 ≢ kind → Taken ask at kind width most (record { from = at; count = 0; next = at })
+    pub other-kind : getD ask at 0 ≢ kind → PartTaken ask at kind width most (record { from = at; count = 0; next = at })
     unfolding isPart
     other-kind h = absent (omega arith) (simp (there, ne-eqb (getD ask at 0) kind h))
 
@@ -34,17 +34,17 @@ module _ (ask : List ℕ) (at kind width most : ℕ) where
       known : eqb (getD ask at 0) kind ≡ true
       known = eq-eqb (getD ask at 0) kind same
 
-      pub too-many : most < be32 ask (at + 1) → Taken ask at kind width most (record { from = at; count = 0; next = at })
+      pub too-many : most < be32 ask (at + 1) → PartTaken ask at kind width most (record { from = at; count = 0; next = at })
       unfolding isPart
       too-many h = absent (omega arith) (simp (there, known, lt-leb (be32 ask (at + 1)) most h))
 
       module _ (few : be32 ask (at + 1) ≤ most) where
-        pub cut-off : length ask < at + 5 + be32 ask (at + 1) * width → Taken ask at kind width most (record { from = at; count = 0; next = at })
+        pub cut-off : length ask < at + 5 + be32 ask (at + 1) * width → PartTaken ask at kind width most (record { from = at; count = 0; next = at })
         unfolding isPart
         cut-off h = absent (omega arith) (simp (there, known, le-leb (be32 ask (at + 1)) most few, lt-leb (at + 5 + be32 ask (at + 1) * width) (length ask) h))
 
         pub whole : at + 5 + be32 ask (at + 1) * width ≤ length ask
-            → Taken ask at kind width most (record { from = at + 5; count = be32 ask (at + 1); next = at + 5 + be32 ask (at + 1) * width })
+            → PartTaken ask at kind width most (record { from = at + 5; count = be32 ask (at + 1); next = at + 5 + be32 ask (at + 1) * width })
         unfolding isPart partAt
         whole h = record {
           part = simp (there, known, le-leb (be32 ask (at + 1)) most few, le-leb (at + 5 + be32 ask (at + 1) * width) (length ask) h);

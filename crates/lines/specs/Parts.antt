@@ -22,7 +22,7 @@ partAt ask at kind width most =
     (record { from = at; count = 0; next = at })
 
 -- the part that was found, which lies within the request and within its room
-pub record Taken (ask : List ℕ) (at kind width most : ℕ) (r : Part) : Type 0 where
+pub record PartTaken (ask : List ℕ) (at kind width most : ℕ) (r : Part) : Type 0 where
   pub part : r ≡ partAt ask at kind width most
   pub count : r .count ≤ most
   pub end : r .next ≡ r .from + r .count * width

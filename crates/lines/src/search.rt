@@ -1,9 +1,9 @@
 // Where a byte stands.
-ghost use Rattle.lines.specs.Find.{Found};
+ghost use Rattle.lines.specs.Find.{FirstPlace};
 
 // The first place from `from` on where a byte stands, or the end.
 pub fn find(text: &[u8], from: usize, byte: u8) -> usize
-    ensures { λ r. ⌜ Found (now (text .entry)) from byte r ⌝ }
+    ensures { λ r. ⌜ FirstPlace (now (text .entry)) from byte r ⌝ }
 {
     if text.len() <= from {
         return text.len();

@@ -10,7 +10,7 @@ use lib.IntN.{ℤ}
 use lib.ListN.{length}
 use Rattle.lms.specs.Predictor.{at}
 use Rattle.lms.specs.declared.QoaLms.{QoaLms}
-use Rattle.search.specs.Candidate.{Best, none, leads, Outcome, not-taken, dropped, halved, finished, startOf, beats, candidate, bestWith}
+use Rattle.search.specs.Candidate.{Best, no-best, leads, Outcome, not-taken, dropped, halved, finished, startOf, beats, candidate, bestWith}
 use Rattle.search.specs.Search.{firstCost, ordered, Entry, unheard, onward, traceFrom, traceOf, bestAfter, searched, leaderOf, chosen, trialsIn, trialsOf}
 use Rattle.search.specs.declared.Run.{Run}
 use Rattle.search.proofs.Outcomes.{Fair, fair, none-finishes, later-most}
@@ -21,7 +21,7 @@ use Rattle.search.proofs.Steps.{unheard-best, unheard-trials}
 -- ---- the best, once there is one, is one of the sixteen with its whole run
 
 abbrev Won : QoaLms → List ℤ → Best → Type 0
-Won lms xs none = ⊥
+Won lms xs no-best = ⊥
 Won lms xs (leads f r) = (f < 16) × (r ≡ whole f (startOf lms f) xs)
 
 won-by : (lms : QoaLms) (xs : List ℤ) (b : Best) (f : ℕ) (r : Run) (t : Bool) → f < 16 → r ≡ whole f (startOf lms f) xs → Won lms xs b → Won lms xs (cond t (leads f r) b)
@@ -53,13 +53,13 @@ module _ (lms : QoaLms) (x : ℤ) (xs : List ℤ) where
       won-onward lms (x ∷ xs) b f fs o _ next (won-trace (bestWith b f o) fs (a .1) next)
 
   -- The first of the order finishes, since it meets no best.
-  won-first : (f : ℕ) (fs : List ℕ) → All (λ g. g < 16) (f ∷ fs) → Won lms (x ∷ xs) (bestAfter none (traceFrom lms (x ∷ xs) none (f ∷ fs)))
+  won-first : (f : ℕ) (fs : List ℕ) → All (λ g. g < 16) (f ∷ fs) → Won lms (x ∷ xs) (bestAfter no-best (traceFrom lms (x ∷ xs) no-best (f ∷ fs)))
   unfolding traceFrom bestAfter bestWith beats
   won-first f fs a =
-      rw (none-finishes (firstCost lms x f) (whole f (startOf lms f) (x ∷ xs)) (length (x ∷ xs)) (candidate lms (x ∷ xs) none f) (fair lms x xs none f))
+      rw (none-finishes (firstCost lms x f) (whole f (startOf lms f) (x ∷ xs)) (length (x ∷ xs)) (candidate lms (x ∷ xs) no-best f) (fair lms x xs no-best f))
       (won-trace (leads f (whole f (startOf lms f) (x ∷ xs))) fs (a .1) (a .0, refl))
 
-  won-all : (fs : List ℕ) → length fs ≡ 16 → All (λ g. g < 16) fs → Won lms (x ∷ xs) (bestAfter none (traceFrom lms (x ∷ xs) none fs))
+  won-all : (fs : List ℕ) → length fs ≡ 16 → All (λ g. g < 16) fs → Won lms (x ∷ xs) (bestAfter no-best (traceFrom lms (x ∷ xs) no-best fs))
   won-all [] e a = absurd (omega arith)
   won-all (f ∷ fs) e a = won-first f fs a
 
@@ -80,7 +80,7 @@ found lms [] h = absurd (omega arith)
 found lms (x ∷ xs) h = by (searched lms (x ∷ xs)) refl (won-searched lms x xs)
   where
     by : (b : Best) → searched lms (x ∷ xs) ≡ b → Won lms (x ∷ xs) b → Found lms (x ∷ xs)
-    by none e w = absurd w
+    by no-best e w = absurd w
     by (leads f r) e w = record { small = rw e (w .0); run-is = rw e (w .1); best-is = rw e refl }
 
 -- ---- at most sixteen trials to a sample
@@ -110,5 +110,5 @@ pub trials-most : (lms : QoaLms) (xs : List ℤ) → 0 < length xs → trialsOf 
 unfolding trialsOf traceOf
 trials-most lms [] h = absurd (omega arith)
 trials-most lms (x ∷ xs) h =
-    let most = trace-most lms x xs none (ordered (firstCost lms x) 16) in
+    let most = trace-most lms x xs no-best (ordered (firstCost lms x) 16) in
     omega (arith, rw (ordered-length (firstCost lms x) 16) at most)

@@ -10,7 +10,7 @@ use lib.IntN.{ℤ}
 use lib.Dec.{eqb}
 use lib.ListN.{length}
 use Rattle.lms.specs.declared.QoaLms.{QoaLms}
-use Rattle.search.specs.Candidate.{Best, none, goes-on, over-best, over-half, Outcome, not-taken, dropped, halved, finished, startOf, stepOf, exceeds, verdict, ruled, runFrom, candidate}
+use Rattle.search.specs.Candidate.{Best, no-best, goes-on, over-best, over-half, Outcome, not-taken, dropped, halved, finished, startOf, stepOf, exceeds, verdict, ruled, runFrom, candidate}
 use Rattle.search.specs.Search.{firstCost, laterTrials}
 use Rattle.search.specs.declared.Run.{Run}
 use Rattle.search.proofs.Runs.{whole}
@@ -61,7 +61,7 @@ fair lms x xs b f = by (exceeds (stepOf f x (startOf lms f) .rank) b) refl
     by false e = fair-run f b (firstCost lms x f) (suc (length xs)) 1 (stepOf f x (startOf lms f)) xs (omega arith)
 
 -- Where there is no best yet, a candidate finishes.
-pub none-finishes : (a : ℕ) (w : Run) (n : ℕ) (o : Outcome) → Fair none a w n o → o ≡ finished w
+pub none-finishes : (a : ℕ) (w : Run) (n : ℕ) (o : Outcome) → Fair no-best a w n o → o ≡ finished w
 unfolding Fair exceeds
 none-finishes a w n (not-taken c) h = absurd (false≢true (h .0))
 none-finishes a w n (dropped i rank) h = absurd (false≢true (h .0))

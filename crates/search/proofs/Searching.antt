@@ -15,7 +15,7 @@ use Rattle.lms.specs.Predictor.{at}
 use Rattle.lms.specs.declared.QoaLms.{QoaLms}
 use Rattle.trial.specs.Trial.{tried}
 use Rattle.trial.proofs.Bounds.{tried-cost-lt}
-use Rattle.search.specs.Candidate.{Best, none, leads, not-taken, finished, startOf, stepOf, exceeds, beats, verdict, ruled, runFrom, candidate}
+use Rattle.search.specs.Candidate.{Best, no-best, leads, not-taken, finished, startOf, stepOf, exceeds, beats, verdict, ruled, runFrom, candidate}
 use Rattle.search.specs.Search.{firstCost, ordered, traceFrom, traceOf, bestAfter, searched, leaderOf, chosen, trialsIn, trialsOf}
 use Rattle.search.specs.Parts.{countedOf, drops, firstsOf, keyOf, SamplesFit}
 use Rattle.search.specs.declared.Firsts.{Firsts}
@@ -41,7 +41,7 @@ pub record Trying (lms : QoaLms) (xs : List ℤ) (met : Best) (leader : Leader) 
 
 -- ---- the candidates' loop begins, and ends
 
-pub held-start : (lms : QoaLms) (xs : List ℤ) {leader : Leader} → leader ≡ leaderOf lms none → Held lms xs none leader 16 (ordered (firstCost lms (at xs 0)) 16)
+pub held-start : (lms : QoaLms) (xs : List ℤ) {leader : Leader} → leader ≡ leaderOf lms no-best → Held lms xs no-best leader 16 (ordered (firstCost lms (at xs 0)) 16)
 unfolding searched trialsOf traceOf
 held-start lms xs e = record { shown = e; same = refl; total = refl }
 

@@ -17,7 +17,7 @@ use Rattle.lms.specs.declared.QoaLms.{QoaLms}
 use Rattle.trial.specs.declared.Heard.{Heard}
 use Rattle.trial.specs.Trial.{tried}
 use Rattle.trial.proofs.Bounds.{tried-heard}
-use Rattle.search.specs.Candidate.{Best, none, leads, Verdict, goes-on, over-best, over-half, Outcome, not-taken, dropped, halved, finished, startOf, stepOf, exceeds, beats, verdict, ruled, runFrom, candidate, bestWith}
+use Rattle.search.specs.Candidate.{Best, no-best, leads, Verdict, goes-on, over-best, over-half, Outcome, not-taken, dropped, halved, finished, startOf, stepOf, exceeds, beats, verdict, ruled, runFrom, candidate, bestWith}
 use Rattle.search.specs.Search.{firstCost, unheard, traceFrom, bestAfter, leaderOf, laterTrials, trialsIn}
 use Rattle.search.specs.Parts.{begunOf, drops}
 use Rattle.search.specs.declared.Run.{Run}
@@ -26,12 +26,12 @@ use Rattle.search.specs.declared.Run.{Run}
 
 pub limit-exceeds : (lms : QoaLms) (b : Best) (rank : ℕ) → rank < 2 ^ 64 → exceeds rank b ≡ ltb (leaderOf lms b .run .rank) rank
 unfolding exceeds leaderOf
-limit-exceeds lms none rank h = sym (le-ltb (2 ^ 64 - 1) rank (omega arith))
+limit-exceeds lms no-best rank h = sym (le-ltb (2 ^ 64 - 1) rank (omega arith))
 limit-exceeds lms (leads f r) rank h = refl
 
 pub limit-beats : (lms : QoaLms) (b : Best) (rank : ℕ) → rank < 2 ^ 64 - 1 → beats rank b ≡ ltb rank (leaderOf lms b .run .rank)
 unfolding beats leaderOf
-limit-beats lms none rank h = sym (lt-ltb _ _ h)
+limit-beats lms no-best rank h = sym (lt-ltb _ _ h)
 limit-beats lms (leads f r) rank h = refl
 
 -- ---- a candidate's verdict

@@ -27,17 +27,17 @@ stepOf sf x r = record {
 
 -- the best so far: the scale factor that leads, with its run, or none before the first candidate has finished
 pub data Best : Type 0 where
-  none : Best
+  no-best : Best
   leads : ℕ → Run → Best
 
 -- a rank exceeds the best
 unfoldable pub exceeds : ℕ → Best → Bool
-exceeds rank none = false
+exceeds rank no-best = false
 exceeds rank (leads f r) = ltb (r .rank) rank
 
 -- a rank is strictly below the best
 unfoldable pub beats : ℕ → Best → Bool
-beats rank none = true
+beats rank no-best = true
 beats rank (leads f r) = ltb rank (r .rank)
 
 -- what is said of a candidate at a sample after its first; where both drops apply, the plain one is named

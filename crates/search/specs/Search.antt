@@ -11,7 +11,7 @@ use Rattle.word.specs.Written.{table}
 use Rattle.lms.specs.Predictor.{at}
 use Rattle.lms.specs.declared.QoaLms.{QoaLms}
 use Rattle.trial.specs.Trial.{tried}
-use Rattle.search.specs.Candidate.{Best, none, leads, Outcome, not-taken, dropped, halved, finished, candidate, bestWith}
+use Rattle.search.specs.Candidate.{Best, no-best, leads, Outcome, not-taken, dropped, halved, finished, candidate, bestWith}
 use Rattle.search.specs.declared.Leader.{Leader}
 use Rattle.search.specs.declared.Encoded.{Encoded}
 
@@ -63,7 +63,7 @@ traceFrom lms xs b (f ∷ fs) =
 
 -- the search of a slice: the sixteen, ordered by the first sample's cost, from no best
 unfoldable pub traceOf : QoaLms → List ℤ → List Entry
-traceOf lms xs = traceFrom lms xs none (ordered (firstCost lms (at xs 0)) 16)
+traceOf lms xs = traceFrom lms xs no-best (ordered (firstCost lms (at xs 0)) 16)
 
 -- ---- the choice
 
@@ -72,11 +72,11 @@ bestAfter b [] = b
 bestAfter b (t ∷ ts) = bestAfter (bestWith b (t .sf) (t .outcome)) ts
 
 unfoldable pub searched : QoaLms → List ℤ → Best
-searched lms xs = bestAfter none (traceOf lms xs)
+searched lms xs = bestAfter no-best (traceOf lms xs)
 
 -- the best as a number and a run; for none the largest rank there is, which no rank exceeds
 unfoldable pub leaderOf : QoaLms → Best → Leader
-leaderOf lms none = record { sf = 0; run = record { rank = 2 ^ 64 - 1; word = 0; lms = lms } }
+leaderOf lms no-best = record { sf = 0; run = record { rank = 2 ^ 64 - 1; word = 0; lms = lms } }
 leaderOf lms (leads f r) = record { sf = f; run = r }
 
 unfoldable pub chosen : QoaLms → List ℤ → Leader

@@ -6,7 +6,7 @@ ghost use lib.ListN.{length, take};
 ghost use Rattle.lms.specs.Predictor.{at};
 ghost use Rattle.scale.specs.Parts.{quickCodes, quickRow, quickTab};
 ghost use Rattle.scale.specs.Tables.{dequantTab, reciprocalTab, rowOf};
-ghost use Rattle.search.specs.Candidate.{none, stepOf};
+ghost use Rattle.search.specs.Candidate.{no-best, stepOf};
 ghost use Rattle.search.specs.Search.{encodedSlice, leaderOf, strided};
 ghost use Rattle.search.specs.Parts.{begunOf, countedOf, drops, firstsOf, SamplesFit};
 ghost use Rattle.lms.specs.Parts.{WeightsWithin};
@@ -140,7 +140,7 @@ fn dropped(limit: u64, i: usize, rank: u64) -> bool
 
 // Before any candidate has finished.
 fn unled(lms: QoaLms) -> Leader
-    ensures { λ r. ⌜ r ≡ leaderOf lms none ⌝ }
+    ensures { λ r. ⌜ r ≡ leaderOf lms no-best ⌝ }
 {
     let run = Run {
         rank: NO_RANK,

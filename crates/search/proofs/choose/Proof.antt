@@ -19,7 +19,7 @@ use Rattle.scale.specs.Tables.{rowOf}
 use Rattle.scale.proofs.QuickRows.{quick-length, quick-tab-row}
 use Rattle.scale.proofs.Rules.{tab-row}
 use Rattle.trial.proofs.Bounds.{tried-code-lt}
-use Rattle.search.specs.Candidate.{Best, none, leads, Outcome, finished, candidate}
+use Rattle.search.specs.Candidate.{Best, no-best, leads, Outcome, finished, candidate}
 use Rattle.search.specs.Search.{firstCost, ordered}
 use Rattle.search.specs.Parts.{SamplesFit}
 use Rattle.search.specs.declared.Firsts.{Firsts}
@@ -188,7 +188,7 @@ next-key-requires : tie.Need-next-key-requires Inv-samples μ-samples Inv-candid
 next-key-requires c κs = search needs
 
 candidates-holds : tie.Need-candidates-holds Inv-samples μ-samples Inv-candidates μ-candidates
-candidates-holds c = (none, ordered (costOf c) 16, held-start (lmsOf c) (samplesOf c) (c .before .before .unled .ensures), due-next (valued c) (coming-all (costOf c)) (c .next-key .ensures))
+candidates-holds c = (no-best, ordered (costOf c) 16, held-start (lmsOf c) (samplesOf c) (c .before .before .unled .ensures), due-next (valued c) (coming-all (costOf c)) (c .next-key .ensures))
 
 add-next-key : tie.Need-add-next-key Inv-samples μ-samples Inv-candidates μ-candidates
 add-next-key c = omega (arith, c .before .before .candidates-test .taken)
