@@ -7,6 +7,7 @@ use mathlib.Core.Option.{Option, none, some}
 use lib.Dec.{eqb, ltb}
 use lib.IntN.{ℤ, pos}
 use lib.ListN.{getD, length}
+use Rattle.format.specs.Format.{sliceLen}
 use Rattle.refusal.specs.Rules.{good, Rule, _gives_, after, firstOf}
 use Rattle.word.specs.Written.{table, written}
 use Rattle.lms.specs.declared.QoaLms.{QoaLms}
@@ -24,7 +25,7 @@ use Rattle.into.specs.declared.DecodedInto.{DecodedInto}
 
 -- how many groups give so many samples, all channels together: ceil(m / 20c)
 unfoldable pub groupsFor : ℕ → ℕ → ℕ
-groupsFor c m = (m + (20 * c - 1)) / (20 * c)
+groupsFor c m = (m + (sliceLen * c - 1)) / (sliceLen * c)
 
 -- where the groups that start at the place end
 abbrev pub groupsEnd : View → ℕ → ℕ
@@ -32,7 +33,7 @@ groupsEnd v q = v .at + 8 * (q * channelsOf v)
 
 -- the samples per channel that q groups give
 abbrev pub groupsSamples : View → ℕ → ℕ
-groupsSamples v q = min (20 * q) (v .remaining)
+groupsSamples v q = min (sliceLen * q) (v .remaining)
 
 -- the predictors after q groups
 unfoldable pub groupsLms : List ℕ → View → ℕ → List QoaLms
@@ -57,7 +58,7 @@ groupsNeeded v k = groupsFor (channelsOf v) (k - waiting v)
 
 -- what stands before the last of those groups, of all samples to come
 abbrev pub beforeLast : View → ℕ → ℕ
-beforeLast v q = waiting v + 20 * (q - 1) * channelsOf v
+beforeLast v q = waiting v + sliceLen * (q - 1) * channelsOf v
 
 -- the range after k samples: within the pending ones, or within the last group that was decoded
 abbrev pub pendingFrom : View → ℕ → ℕ → ℕ

@@ -8,7 +8,7 @@ use lib.Dec.{leb, ltb}
 use lib.IntN.{ℤ, natAbs, pos, negsuc}
 use lib.ListN.{getD, length}
 use native.Mathlib.Omega.{arith}
-use Rattle.scale.specs.Tables.{reciprocalOf, rowFor, rowOf, factorOf, factors}
+use Rattle.scale.specs.Tables.{fixedOne, reciprocalOf, rowFor, rowOf, factorOf, factors}
 use Rattle.scale.specs.Division.{codeFor, codes, placeOf}
 use Rattle.scale.proofs.Table.{agree, values}
 

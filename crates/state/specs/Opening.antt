@@ -10,7 +10,7 @@ use lib.ListN.{replicate}
 use Rattle.refusal.specs.Rules.{Rule, _gives_}
 use Rattle.word.specs.Written.{table}
 use Rattle.lms.specs.Predictor.{zeroLms}
-use Rattle.format.specs.Format.{maxChannels, stateEnd}
+use Rattle.format.specs.Format.{maxChannels, pendingLen, stateEnd}
 use Rattle.format.specs.FileHeader.{fileRules, isFixed, totalOf}
 use Rattle.format.specs.Header.{headerAt, headerRules, leftAt}
 use Rattle.format.specs.Part.{cutRules}
@@ -70,7 +70,7 @@ zeroState = record {
   end = 0;
   given = false;
   lms = replicate maxChannels zeroLms;
-  pending = replicate (20 * maxChannels) (pos 0);
+  pending = replicate pendingLen (pos 0);
 }
 
 -- the state that is handed back
