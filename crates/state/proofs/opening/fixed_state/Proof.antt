@@ -43,7 +43,7 @@ returns c =
     let states = c .before .before in
     let zero = states .before .before .before .before .zero-state in
     let s = states .before .before .before .before .before .before in
-    let eight : length (zero .result .lms) ≡ maxChannels = ap (λ (d : QoaDecoder). length (d .lms)) (zero .ensures) ∙ long in
+    let whole : length (zero .result .lms) ≡ maxChannels = ap (λ (d : QoaDecoder). length (d .lms)) (zero .ensures) ∙ long in
     rw (c .before .state-end .ensures, c .frame-facts .ensures, states .read-states .ensures)
     (fixed-view (s .args .bytes .now) (s .args .total) (s .args .h) (zero .result .lms) (zero .result .pending) (s .pre .0) (s .pre .1) (omega (arith, s .pre .2)))
 
