@@ -1,4 +1,5 @@
 // The search for a slice's scale factor.
+use format::frame::QOA_SLICE_LEN;
 use lms::QoaLms;
 ghost use mathlib.Core.Path.{_≡_};
 ghost use Prim.Native.Nat.{_+_, _-_, _*_, _≤_, _<_, _^_};
@@ -51,11 +52,11 @@ pub struct Encoded {
 }
 
 // The samples of one channel, side by side.
-fn gather(samples: &[i16], start: usize, stride: usize, n: usize) -> [i16; 20]
+fn gather(samples: &[i16], start: usize, stride: usize, n: usize) -> [i16; QOA_SLICE_LEN]
     requires { ⌜ (0 < n) × (n ≤ sliceLen) × (start + (n - 1) * stride < length (now samples)) ⌝ }
     ensures { λ r. ⌜ (take n r ≡ strided n (now (samples .entry)) start stride) × SamplesFit (strided n (now (samples .entry)) start stride) ⌝ }
 {
-    let mut taken: [i16; 20] = [0; 20];
+    let mut taken: [i16; QOA_SLICE_LEN] = [0; QOA_SLICE_LEN];
     for i in 0..n {
         let sample = samples[start + i * stride];
         taken[i] = sample;
