@@ -20,7 +20,7 @@ use Rattle.word.proofs.BytesLaws.{be-append, be-of, be-past, byte-at, length-by
 use Rattle.word.proofs.Tables.{table-ext, table-of}
 use Rattle.lms.specs.Predictor.{at}
 use Rattle.lms.specs.declared.QoaLms.{QoaLms}
-use Rattle.format.specs.Format.{maxChannels}
+use Rattle.format.specs.Format.{maxChannels, pendingLen}
 use Rattle.format.specs.Predictor.{lmsOf, noLms}
 use Rattle.state.specs.View.{View}
 use Rattle.state.specs.declared.ProcessingMode.{ProcessingMode}
@@ -128,7 +128,7 @@ pub record DecoderHolds (v : View) : Type 0 where
   pub samples-fit : v .frame .samples < 2 ^ 16
   pub remaining-fits : v .remaining < 2 ^ 16
   pub next-fits : v .next < 2 ^ 16
-  pub few-pending : v .end ≤ 20 * maxChannels
+  pub few-pending : v .end ≤ pendingLen
   pub each-pending : length (v .pending) ≡ v .end - v .next
   pub pending-fit : (i : ℕ) → SFits w16 (at (v .pending) i)
   pub each-channel : length (v .lms) ≡ v .frame .channels
@@ -200,7 +200,7 @@ module _ (m total c rate : ℕ) (v : View) (holds : DecoderHolds v) where
       ∙ predictors-back (v .lms) block 32 (v .frame .channels) (holds .each-channel) (holds .few-channels) (holds .predictors)
       (λ q within. rest-back 4 q ∙ be-append 4 (predictorsBytes (v .lms)) (pendingBytes v) q (omega (arith, length-predictors (v .lms))))
 
-  held-back : (i : ℕ) → i < 20 * maxChannels → be 2 block (32 + 32 * maxChannels + 2 * i) ≡ low16 (pendingAt v i)
+  held-back : (i : ℕ) → i < pendingLen → be 2 block (32 + 32 * maxChannels + 2 * i) ≡ low16 (pendingAt v i)
   unfolding pendingBytes
   held-back i l =
       let place : 32 + 32 * maxChannels + 2 * i ≡ 32 + (length (predictorsBytes (v .lms)) + 2 * i) = omega (arith, length-predictors (v .lms)) in
@@ -208,7 +208,7 @@ module _ (m total c rate : ℕ) (v : View) (holds : DecoderHolds v) where
       ∙ rest-back 2 (length (predictorsBytes (v .lms)) + 2 * i)
       ∙ be-past 2 (predictorsBytes (v .lms)) (pendingBytes v) (2 * i)
       ∙ ap (be 2 (pendingBytes v)) (sym (add-zero (2 * i)))
-      ∙ inside 2 (λ k. bytesOf 2 (low16 (pendingAt v k))) (λ k. length-bytes 2 (low16 (pendingAt v k))) 2 0 (lit≤ tt) (20 * maxChannels) i l
+      ∙ inside 2 (λ k. bytesOf 2 (low16 (pendingAt v k))) (λ k. length-bytes 2 (low16 (pendingAt v k))) 2 0 (lit≤ tt) pendingLen i l
       ∙ number-back 2 (low16 (pendingAt v i)) (modulo-lt 0xffff (pendingAt v i))
 
   -- the pending sample at a place of the range

@@ -15,7 +15,7 @@ use Rattle.word.specs.Written.{table, written}
 use Rattle.word.proofs.Tables.{getD-table, length-table, table-ext}
 use Rattle.word.proofs.Writes.{written-at}
 use Rattle.lms.specs.declared.QoaLms.{QoaLms}
-use Rattle.format.specs.Format.{maxChannels}
+use Rattle.format.specs.Format.{maxChannels, pendingLen}
 use Rattle.format.specs.Predictor.{lmsOf, noLms}
 use Rattle.body.specs.Laid.{laid}
 use Rattle.body.proofs.Laids.{laid-ext}
@@ -65,10 +65,10 @@ held-sample d i = by (ltb i (d .next)) (ltb i (d .end)) refl refl
         let past : d .end ≤ i = ltb-false i (d .end) f in
         sym (List·getD-eq-default shown (pos 0) (omega (arith, length-table (d .end - d .next) (λ k. getD (d .pending) (d .next + k) (pos 0)))))
 
-pub held-pending : (d : QoaDecoder) → laid (20 * maxChannels) (λ i. bytesOf 2 (low16 (sampleHeld (d .pending) (d .next) (d .end) i))) ≡ pendingBytes (view d)
+pub held-pending : (d : QoaDecoder) → laid pendingLen (λ i. bytesOf 2 (low16 (sampleHeld (d .pending) (d .next) (d .end) i))) ≡ pendingBytes (view d)
 unfolding pendingBytes
 held-pending d =
-    laid-ext (20 * maxChannels) (λ i. bytesOf 2 (low16 (sampleHeld (d .pending) (d .next) (d .end) i))) (λ i. bytesOf 2 (low16 (pendingAt (view d) i)))
+    laid-ext pendingLen (λ i. bytesOf 2 (low16 (sampleHeld (d .pending) (d .next) (d .end) i))) (λ i. bytesOf 2 (low16 (pendingAt (view d) i)))
     (λ i l. ap (λ (z : ℤ). bytesOf 2 (low16 z)) (held-sample d i))
 
 -- ---- a range that was stored

@@ -11,7 +11,7 @@ use Rattle.word.specs.Bytes.{bytesOf, put}
 use Rattle.word.proofs.BytesLaws.{length-bytes}
 use Rattle.lms.specs.Predictor.{at}
 use Rattle.lms.specs.declared.QoaLms.{QoaLms}
-use Rattle.format.specs.Format.{maxChannels}
+use Rattle.format.specs.Format.{maxChannels, pendingLen}
 use Rattle.format.specs.Predictor.{lmsOf}
 use Rattle.state.specs.View.{View}
 use Rattle.state.specs.declared.FrameFacts.{FrameFacts}
@@ -135,7 +135,7 @@ length-predictors states = length-laid 32 maxChannels (λ j. predictorBytes (lms
 
 pub length-pending : (v : View) → length (pendingBytes v) ≡ 40 * maxChannels
 unfolding pendingBytes
-length-pending v = length-laid 2 (20 * maxChannels) (λ i. bytesOf 2 (low16 (pendingAt v i))) (λ i. length-bytes 2 (low16 (pendingAt v i)))
+length-pending v = length-laid 2 pendingLen (λ i. bytesOf 2 (low16 (pendingAt v i))) (λ i. length-bytes 2 (low16 (pendingAt v i)))
 
 -- ---- all of it
 

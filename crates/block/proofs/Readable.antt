@@ -10,7 +10,7 @@ use lib.IntN.{pos}
 use lib.ListN.{getD, length}
 use Rattle.word.specs.Bytes.{be16, be32, be64}
 use Rattle.word.specs.Written.{table}
-use Rattle.format.specs.Format.{maxChannels}
+use Rattle.format.specs.Format.{maxChannels, pendingLen}
 use Rattle.format.specs.Predictor.{lmsOf}
 use Rattle.state.specs.View.{view}
 use Rattle.state.specs.declared.FrameFacts.{FrameFacts}
@@ -30,17 +30,17 @@ both-ways b e f = let z : _≡_ {A = ℕ} 0 1 = cc in absurd (omega arith)
 pub record DecoderFacts (block : List ℕ) : Type 0 where
   pub long : length block ≡ decoderSize
   pub few-channels : byteIn block 18 ≤ maxChannels
-  pub few-pending : be16 block 29 ≤ 20 * maxChannels
+  pub few-pending : be16 block 29 ≤ pendingLen
 
 pub decoder-facts : (block : List ℕ) → readableDecoder block ≡ true → DecoderFacts block
 unfolding readableDecoder isDecoder
 decoder-facts block e =
-    let state = and-left (isDecoder block) (leb (byteIn block 18) maxChannels && leb (be16 block 29) (20 * maxChannels)) e in
-    let places = and-right (isDecoder block) (leb (byteIn block 18) maxChannels && leb (be16 block 29) (20 * maxChannels)) e in
+    let state = and-left (isDecoder block) (leb (byteIn block 18) maxChannels && leb (be16 block 29) pendingLen) e in
+    let places = and-right (isDecoder block) (leb (byteIn block 18) maxChannels && leb (be16 block 29) pendingLen) e in
     record {
       long = eqb-true (length block) decoderSize (and-left (eqb (length block) decoderSize) (leb (byteIn block 0) 1 && leb (byteIn block 31) 1) state);
-      few-channels = leb-true (byteIn block 18) maxChannels (and-left (leb (byteIn block 18) maxChannels) (leb (be16 block 29) (20 * maxChannels)) places);
-      few-pending = leb-true (be16 block 29) (20 * maxChannels) (and-right (leb (byteIn block 18) maxChannels) (leb (be16 block 29) (20 * maxChannels)) places);
+      few-channels = leb-true (byteIn block 18) maxChannels (and-left (leb (byteIn block 18) maxChannels) (leb (be16 block 29) pendingLen) places);
+      few-pending = leb-true (be16 block 29) pendingLen (and-right (leb (byteIn block 18) maxChannels) (leb (be16 block 29) pendingLen) places);
     }
 
 pub record EncoderFacts (block : List ℕ) : Type 0 where

@@ -10,7 +10,7 @@ use mir.Val.{toZ}
 use Rattle.wrap.specs.Wrap.{low16}
 use Rattle.word.specs.Bytes.{be16, be32, be64, bytesOf}
 use Rattle.word.specs.Written.{table}
-use Rattle.format.specs.Format.{maxChannels}
+use Rattle.format.specs.Format.{maxChannels, pendingLen}
 use Rattle.body.specs.Laid.{laid}
 use Rattle.state.specs.View.{View}
 use Rattle.state.specs.declared.FrameFacts.{FrameFacts}
@@ -77,7 +77,7 @@ unfoldable pub pendingAt : View → ℕ → ℤ
 pendingAt v i = cond (ltb i (v .next)) (pos 0) (getD (v .pending) (i - v .next) (pos 0))
 
 unfoldable pub pendingBytes : View → List ℕ
-pendingBytes v = laid (20 * maxChannels) (λ i. bytesOf 2 (low16 (pendingAt v i)))
+pendingBytes v = laid pendingLen (λ i. bytesOf 2 (low16 (pendingAt v i)))
 
 unfoldable pub decoderBytes : View → List ℕ
 decoderBytes v =

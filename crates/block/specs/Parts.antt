@@ -6,7 +6,7 @@ use mathlib.Core.List.{List}
 use Prim.Native.Nat.{ℕ}
 use lib.Dec.{leb}
 use Rattle.word.specs.Bytes.{be16}
-use Rattle.format.specs.Format.{maxChannels}
+use Rattle.format.specs.Format.{maxChannels, pendingLen}
 use Rattle.state.specs.View.{view}
 use Rattle.encoder.specs.Encoder as E
 use Rattle.block.specs.DecoderBlock.{byteIn, decoderIn, isDecoder}
@@ -16,7 +16,7 @@ use Rattle.block.specs.declared.encoding.BlockEncoder.{BlockEncoder}
 
 -- a block whose channels and pending samples have a place in the code's state; the state rules refuse any other
 unfoldable pub readableDecoder : List ℕ → Bool
-readableDecoder block = isDecoder block && (leb (byteIn block 18) maxChannels && leb (be16 block 29) (20 * maxChannels))
+readableDecoder block = isDecoder block && (leb (byteIn block 18) maxChannels && leb (be16 block 29) pendingLen)
 
 unfoldable pub readableEncoder : List ℕ → Bool
 readableEncoder block = isEncoder block && leb (byteIn block 0) maxChannels

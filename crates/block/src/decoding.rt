@@ -7,7 +7,7 @@ ghost use lib.IntN.{pos};
 ghost use lib.ListN.{getD, length};
 ghost use Rattle.word.specs.Bytes.{bytesOf};
 ghost use Rattle.word.specs.Written.{table};
-ghost use Rattle.format.specs.Format.{maxChannels};
+ghost use Rattle.format.specs.Format.{maxChannels, pendingLen};
 ghost use Rattle.state.specs.View.{view};
 ghost use Rattle.encoder.specs.Calls.{onto};
 ghost use Rattle.body.specs.Laid.{laid};
@@ -88,7 +88,7 @@ fn read_frame(block: &[u8]) -> FrameFacts
 
 // The pending samples from `next` to `end`; all else is zero.
 fn read_pending(block: &[u8], next: usize, end: usize) -> [i16; PENDING]
-    requires { ⌜ (end ≤ 20 * maxChannels) × (decoderSize ≤ length (now block)) ⌝ }
+    requires { ⌜ (end ≤ pendingLen) × (decoderSize ≤ length (now block)) ⌝ }
     ensures { λ r. ⌜ table (end - next) (λ i. getD r (next + i) (pos 0)) ≡ table (end - next) (λ i. sampleIn (now (block .entry)) (next + i)) ⌝ }
 {
     let mut pending = [0i16; PENDING];
@@ -202,7 +202,7 @@ fn write_rest(block: &mut [u8], remaining: u16, next: usize, end: usize, given: 
 
 // The pending sample at a place, or 0 where none is pending.
 fn held_sample(pending: &[i16; PENDING], next: usize, end: usize, i: usize) -> i16
-    requires { ⌜ i < 20 * maxChannels ⌝ }
+    requires { ⌜ i < pendingLen ⌝ }
     ensures { λ r. ⌜ r ≡ cond (ltb i next) (pos 0) (cond (ltb i end) (getD (now (pending .entry)) i (pos 0)) (pos 0)) ⌝ }
 {
     if i < next {
@@ -214,7 +214,7 @@ fn held_sample(pending: &[i16; PENDING], next: usize, end: usize, i: usize) -> i
 // Stores the pending samples, 0 outside of `next` to `end`.
 fn write_pending(block: &mut [u8], pending: &[i16; PENDING], next: usize, end: usize)
     requires { ⌜ decoderSize ≤ length (now block) ⌝ }
-    ensures { λ r. ⌜ now (block .exit) ≡ overlaid (now (block .entry)) (32 + 32 * maxChannels) (laid (20 * maxChannels) (λ i. bytesOf 2 (low16 (cond (ltb i next) (pos 0) (cond (ltb i end) (getD (now (pending .entry)) i (pos 0)) (pos 0)))))) ⌝ }
+    ensures { λ r. ⌜ now (block .exit) ≡ overlaid (now (block .entry)) (32 + 32 * maxChannels) (laid pendingLen (λ i. bytesOf 2 (low16 (cond (ltb i next) (pos 0) (cond (ltb i end) (getD (now (pending .entry)) i (pos 0)) (pos 0)))))) ⌝ }
 {
     for i in 0..PENDING {
         let sample = held_sample(pending, next, end, i);

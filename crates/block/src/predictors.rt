@@ -28,7 +28,7 @@ fn signed_in(block: &[u8], at: usize) -> i32
 }
 
 // Four numbers from a place on.
-fn four_in(block: &[u8], at: usize) -> [i32; 4]
+fn four_in(block: &[u8], at: usize) -> [i32; QOA_LMS_LEN]
     requires { ⌜ at + 16 ≤ length (now block) ⌝ }
     ensures { λ r. ⌜ r ≡ fourIn (now (block .entry)) at ⌝ }
 {
@@ -75,7 +75,7 @@ pub fn read_predictors(block: &[u8], at: usize, channels: usize) -> [QoaLms; QOA
 }
 
 // Stores four numbers from a place on.
-fn write_four(block: &mut [u8], at: usize, xs: [i32; 4])
+fn write_four(block: &mut [u8], at: usize, xs: [i32; QOA_LMS_LEN])
     requires { ⌜ at + 16 ≤ length (now block) ⌝ }
     ensures { λ r. ⌜ now (block .exit) ≡ overlaid (now (block .entry)) at (fourBytes xs) ⌝ }
 {

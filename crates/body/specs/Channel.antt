@@ -3,6 +3,7 @@ use Prim.Native.Nat.{ℕ, zero, suc, _*_, _/_, _%_}
 use mathlib.Core.List.{List}
 use lib.IntN.{ℤ}
 use lib.ListN.{take, drop}
+use Rattle.format.specs.Format.{sliceLen}
 use Rattle.lms.specs.Predictor.{at}
 use Rattle.lms.specs.declared.QoaLms.{QoaLms}
 use Rattle.search.specs.Search.{encodedSlice}
@@ -10,7 +11,7 @@ use Rattle.search.specs.Reconstruction.{reconstructed, stateTried}
 
 -- the samples of slice g: twenty, or fewer at the end
 unfoldable pub slicePart : List ℤ → ℕ → List ℤ
-slicePart xs g = take 20 (drop (20 * g) xs)
+slicePart xs g = take sliceLen (drop (sliceLen * g) xs)
 
 -- the predictor before slice g: as the winning run of the slice before left it
 unfoldable pub lmsBefore : QoaLms → List ℤ → ℕ → QoaLms
@@ -23,4 +24,4 @@ sliceWord s xs g = encodedSlice (lmsBefore s xs g) (slicePart xs g) .word
 
 -- the writer's reconstruction of sample k
 unfoldable pub sumAt : QoaLms → List ℤ → ℕ → ℤ
-sumAt s xs k = at (reconstructed (lmsBefore s xs (k / 20)) (slicePart xs (k / 20))) (k % 20)
+sumAt s xs k = at (reconstructed (lmsBefore s xs (k / sliceLen)) (slicePart xs (k / sliceLen))) (k % sliceLen)

@@ -7,7 +7,7 @@ ghost use Rattle.word.specs.Written.{written};
 ghost use Rattle.lms.specs.Parts.{WeightsWithin};
 ghost use Rattle.scale.specs.Parts.{quickCodes, quickTab};
 ghost use Rattle.scale.specs.Tables.{dequantTab, reciprocalTab};
-ghost use Rattle.format.specs.Format.{maxChannels, slicesOf};
+ghost use Rattle.format.specs.Format.{frameLen, maxChannels, sliceLen, slicesOf};
 ghost use Rattle.format.specs.Predictor.{lmsOf};
 ghost use Rattle.search.specs.Search.{encodedSlice, strided};
 ghost use Rattle.body.specs.Channel.{lmsBefore, sliceWord};
@@ -45,7 +45,7 @@ fn put_group(
 ) -> [QoaLms; QOA_MAX_CHANNELS]
     requires table { ⌜ now tab ≡ dequantTab ⌝ }
     requires quick { ⌜ (now quick ≡ quickTab) × (now reciprocals ≡ reciprocalTab) × (now coding ≡ quickCodes) ⌝ }
-    requires small { ⌜ (channels ≤ maxChannels) × (0 < count) × (count ≤ 20) ⌝ }
+    requires small { ⌜ (channels ≤ maxChannels) × (0 < count) × (count ≤ sliceLen) ⌝ }
     requires whole { ⌜ start + count * channels ≤ length (now samples) ⌝ }
     requires room { ⌜ at + 8 * channels ≤ length (now out) ⌝ }
     requires weights { ⌜ ((j : ℕ) → j < channels → WeightsWithin (2 ^ 29) (lmsOf states j)) ⌝ }
@@ -75,7 +75,7 @@ fn put_group(
 
 // How many samples of those left go into a slice.
 fn slice_len(left: usize) -> usize
-    ensures { λ r. ⌜ r ≡ min 20 left ⌝ }
+    ensures { λ r. ⌜ r ≡ min sliceLen left ⌝ }
 {
     if left < QOA_SLICE_LEN {
         left
@@ -93,7 +93,7 @@ pub fn put_groups(
     out: &mut [u8],
     at: usize,
 ) -> [QoaLms; QOA_MAX_CHANNELS]
-    requires small { ⌜ (0 < channels) × (channels ≤ maxChannels) × (n ≤ 5120) ⌝ }
+    requires small { ⌜ (0 < channels) × (channels ≤ maxChannels) × (n ≤ frameLen) ⌝ }
     requires whole { ⌜ n * channels ≤ length (now samples) ⌝ }
     requires room { ⌜ at + 8 * (channels * slicesOf n) ≤ length (now out) ⌝ }
     requires weights { ⌜ ((j : ℕ) → j < channels → WeightsWithin 32768 (lmsOf states j)) ⌝ }

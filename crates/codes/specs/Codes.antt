@@ -1,5 +1,5 @@
 -- How an answer is one signed number for a C caller: a number from 0 on, or minus the number of a refusal. Assumes nothing.
-use Prim.Native.Nat.{ℕ, _+_, _*_}
+use Prim.Native.Nat.{ℕ, _+_, _*_, _^_}
 use lib.Ieee.{Float, binary64, ofInt}
 use lib.IntN.{ℤ, pos, negℤ}
 use Rattle.refusal.specs.Rules.{Answer, good, refused}
@@ -13,7 +13,7 @@ coded (good n) = pos n
 abbrev pub codedEncode : Told → ℤ
 codedEncode (wrote n) = pos n
 codedEncode (refuses n) = negℤ (pos n)
-codedEncode (refuses-14 bytes channel) = negℤ (pos (14 + 256 * channel + 65536 * bytes))
+codedEncode (refuses-14 bytes channel) = negℤ (pos (14 + 2 ^ 8 * channel + 2 ^ 16 * bytes))
 
 -- seconds likewise, in doubles
 abbrev pub codedSeconds : Answer Float → Float

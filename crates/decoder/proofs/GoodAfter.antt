@@ -3,7 +3,7 @@ use mathlib.Core.Path.{_≡_, refl}
 use mathlib.Core.Bool.{Bool, true, false, cond, not}
 use mathlib.Core.List.{List}
 use mathlib.Core.Logic.{dite}
-use mathlib.Core.Option.{none, some}
+use mathlib.Core.Option.{none}
 use Prim.Native.Nat.{ℕ, zero, suc, _+_, _-_, _*_, _/_, _≤_, _<_, min}
 use native.Mathlib.Decide.{decLt}
 use native.Mathlib.Nat.{div-lt-iff-lt-mul, div-zero, le-refl, min-le-left, mul-le-mul-right}
@@ -21,17 +21,16 @@ use Rattle.format.specs.Format.{slicesOf}
 use Rattle.format.specs.Header.{headerAt, leftAt}
 use Rattle.format.specs.Predictor.{lmsOf, noLms}
 use Rattle.word.proofs.Fields.{AreBytes}
-use Rattle.format.proofs.Headers.{passes}
 use Rattle.groups.specs.Channel.{runAfter}
 use Rattle.groups.specs.Groups.{wordAt}
 use Rattle.groups.proofs.Fits.{run-fits}
 use Rattle.groups.proofs.Growth.{run-within}
-use Rattle.state.specs.View.{View, channelsOf, waiting}
+use Rattle.state.specs.View.{View, channelsOf, waiting, flagged}
 use Rattle.state.specs.States.{goodState, weightBound}
 use Rattle.state.proofs.Bounds.{bound-grows}
 use Rattle.state.proofs.GoodStates.{Good, facts-good, good-facts}
 use Rattle.state.proofs.OpenedStates.{read-good}
-use Rattle.into.specs.Into.{pendingTo, flagged, groupsEnd, groupsFor, groupsLms, groupsSamples, intoAfter, intoCount, intoGroups, intoRules, pendingFrom, takenFrom}
+use Rattle.into.specs.Into.{pendingTo, groupsEnd, groupsFor, groupsLms, groupsSamples, intoAfter, intoCount, intoGroups, intoRules, pendingFrom, takenFrom}
 use Rattle.frames.specs.Frames as Frames
 use Rattle.frames.specs.Frames.{dropped, enterRules, entered, enteredOr, frameRules, nextRules}
 use Rattle.decoder.specs.Items.{Turn, first-header, from-group, from-next, from-pending, itemAfter, itemRules, settled, turnAfter, turnOf, turnRules}

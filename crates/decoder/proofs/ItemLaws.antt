@@ -17,10 +17,10 @@ use Rattle.word.proofs.Tests.{tests}
 use Rattle.word.proofs.Writes.{written-at}
 use Rattle.refusal.specs.Refusals.{numberOf}
 use Rattle.refusal.specs.declared.Refusal.the-variants.{BadState, Truncated}
-use Rattle.state.specs.View.{view, waiting}
+use Rattle.state.specs.View.{view, waiting, flagged}
 use Rattle.state.specs.States.{goodState}
 use Rattle.state.specs.declared.QoaDecoder.{QoaDecoder}
-use Rattle.into.specs.Into.{comingAt, flagged, groupsFor, takenFrom}
+use Rattle.into.specs.Into.{comingAt, groupsFor, takenFrom}
 use Rattle.frames.specs.Frames.{Found, a-frame, enterRules, enteredOr, foundAt, no-frame, toldFrame}
 use Rattle.decoder.specs.Items.{Item, ItemDone, Turn, first-header, from-group, from-next, from-pending, itemAfter, itemIn, itemOf, itemRules, settled, toldItem, turnOf, turnRules}
 use Rattle.frames.specs.declared.NextFrame.{NextFrame}

@@ -1,18 +1,18 @@
 -- The item step: pending samples before all else, then the first header, the samples of the frame, and the next frame. Assumes nothing.
 use Prim.Native.Nat.{ℕ}
 use mathlib.Core.Path.{_≡_}
-use mathlib.Core.Bool.{true, not, cond}
+use mathlib.Core.Bool.{not, cond}
 use mathlib.Core.List.{List, [], _∷_}
 use lib.Dec.{ltb}
 use lib.IntN.{ℤ}
 use lib.ListN.{length}
 use Rattle.refusal.specs.Rules.{Answer, good, refused, Rule, _gives_, after, firstOf}
 use Rattle.refusal.specs.Refusals.{numberOf}
-use Rattle.state.specs.View.{View, view, waiting}
+use Rattle.state.specs.View.{View, movedTo, nonePending, view, waiting, flagged}
 use Rattle.state.specs.States.{goodState}
 use Rattle.state.specs.declared.QoaDecoder.{QoaDecoder}
 use Rattle.into.specs.Left.{Leaves}
-use Rattle.into.specs.Into.{comingAt, flagged, groupsEnd, takenFrom}
+use Rattle.into.specs.Into.{comingAt, groupsEnd, takenFrom}
 use Rattle.frames.specs.Frames.{Found, a-frame, no-frame, enterRules, enteredOr, foundAt}
 use Rattle.state.specs.declared.FrameFacts.{FrameFacts}
 use Rattle.decoder.specs.declared.NextItem.{NextItem}
@@ -34,17 +34,7 @@ turnOf v = cond (ltb 0 (waiting v)) from-pending (cond (not (v .given)) first-he
 
 -- a state with no sample pending
 abbrev pub settled : View → View
-settled v = record {
-  mode = v .mode;
-  at = v .at;
-  frame = v .frame;
-  remaining = v .remaining;
-  next = 0;
-  end = 0;
-  pending = [];
-  given = true;
-  lms = v .lms;
-}
+settled v = movedTo v (v .frame) (v .at) (v .remaining) nonePending (v .lms)
 
 -- 5 where the group that the step needs is cut; the next frame's refusals
 abbrev pub turnRules : Turn → List ℕ → View → List Rule

@@ -4,7 +4,7 @@ ghost use mathlib.Core.Bool.{true};
 ghost use mathlib.Core.List.{List};
 ghost use Prim.Native.Nat.{ℕ, _*_, _≤_, _<_};
 ghost use lib.ListN.{length};
-ghost use Rattle.format.specs.Format.{maxChannels};
+ghost use Rattle.format.specs.Format.{maxChannels, pendingLen};
 ghost use Rattle.state.specs.View.{view};
 ghost use Rattle.state.specs.States.{goodState};
 ghost use Rattle.decoder.specs.declared.QoaItem.the-variants.{Refused};
@@ -22,7 +22,7 @@ ghost use Rattle.decoder.specs.Parts.{TurnDone};
 
 // The first of the pending samples.
 fn pending_item(d: QoaDecoder) -> NextItem
-    requires { ⌜ (d .next < d .end) × (d .end ≤ 20 * maxChannels) ⌝ }
+    requires { ⌜ (d .next < d .end) × (d .end ≤ pendingLen) ⌝ }
     ensures { λ r. ⌜ ((bs : List ℕ) → TurnDone from-pending bs d r) ⌝ }
 {
     let next = d.next;

@@ -1,10 +1,11 @@
 -- Laws of a frame: its length, its bytes and the state after it, in terms of the state that the code holds. Assumes nothing.
-use Prim.Native.Nat.{ℕ, _+_, _*_, _/_, _≤_, _<_}
+use Prim.Native.Nat.{ℕ, _+_, _*_, _/_, _^_, _≤_, _<_}
 use mathlib.Core.Path.{_≡_, ap, ap₂, sym, _∙_}
 use mathlib.Core.Bool.{true}
 use mathlib.Core.List.{List, _++_, append-assoc}
 use native.Mathlib.Nat.{mul-le-mul}
 use native.Mathlib.Omega.{arith}
+use lib.Dec.{lit<}
 use lib.IntN.{ℤ}
 use lib.ListN.{length, length-append}
 use Rattle.word.specs.Bytes.{bytesOf, put}
@@ -12,7 +13,7 @@ use Rattle.word.proofs.BytesLaws.{length-bytes}
 use Rattle.word.proofs.Tables.{getD-table, length-table, table-ext}
 use Rattle.lms.specs.Parts.{WeightsWithin}
 use Rattle.lms.specs.declared.QoaLms.{QoaLms}
-use Rattle.format.specs.Format.{frameLength, maxChannels, slicesOf, stateEnd}
+use Rattle.format.specs.Format.{frameLen, frameLength, maxChannels, slicesOf, slicesPerFrame, stateEnd}
 use Rattle.format.specs.Header.{headerWord}
 use Rattle.format.specs.Predictor.{lmsOf, noLms}
 use Rattle.search.specs.Search.{strided}
@@ -46,10 +47,14 @@ module _ (v : EncoderView) (samples : List ℤ) where
   unfolding frameSums
   length-sums = length-table (perChannel v samples * v .channels) _
 
--- at most 256 groups of 8 channels
-pub frame-small : (c n : ℕ) → c ≤ maxChannels → n ≤ 5120 → frameLength c n ≤ 16520
+-- no frame is longer than a full one with the most channels, whose length has 16 bits
+pub frame-small : (c n : ℕ) → c ≤ maxChannels → n ≤ frameLen → frameLength c n ≤ frameLength maxChannels frameLen
 unfolding frameLength stateEnd slicesOf
-frame-small c n hc hn = let few : slicesOf n ≤ 256 = omega arith in omega (arith, mul-le-mul hc few)
+frame-small c n hc hn = let few : slicesOf n ≤ slicesPerFrame = omega arith in omega (arith, mul-le-mul hc few)
+
+pub frame-most : frameLength maxChannels frameLen < 2 ^ 16
+unfolding frameLength stateEnd slicesOf
+frame-most = lit< tt
 
 -- ---- what the code stores, one part behind the other
 

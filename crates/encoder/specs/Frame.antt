@@ -10,7 +10,7 @@ use Rattle.word.specs.Bytes.{bytesOf}
 use Rattle.refusal.specs.Rules.{Rule, _gives_}
 use Rattle.word.specs.Written.{table}
 use Rattle.lms.specs.declared.QoaLms.{QoaLms}
-use Rattle.format.specs.Format.{frameLength, slicesOf}
+use Rattle.format.specs.Format.{frameLen, frameLength, slicesOf}
 use Rattle.format.specs.Header.{headerWord}
 use Rattle.format.specs.Predictor.{lmsOf}
 use Rattle.format.specs.declared.frame.FrameHeader.{FrameHeader}
@@ -71,7 +71,7 @@ encodeRules v samples room =
     (not (goodEncoder v) gives 8)
     ∷ (eqb (length samples) 0 gives 13)
     ∷ (not (eqb (length samples % v .channels) 0) gives 13)
-    ∷ (ltb 5120 (perChannel v samples) gives 13)
+    ∷ (ltb frameLen (perChannel v samples) gives 13)
     ∷ (ltb room (frameLength (v .channels) (perChannel v samples)) gives 7)
     ∷ []
 

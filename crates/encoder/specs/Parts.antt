@@ -5,7 +5,7 @@ use mathlib.Core.List.{List}
 use mathlib.Core.Option.{Option, none, some}
 use lib.IntN.{ℤ}
 use lib.ListN.{length}
-use Rattle.format.specs.Format.{maxChannels, mostRate}
+use Rattle.format.specs.Format.{frameLen, maxChannels, mostRate}
 use Rattle.encoder.specs.Encoder.{EncoderView}
 use Rattle.encoder.specs.Frame.{firstWide, perChannel}
 use Rattle.encoder.specs.declared.Wide.{Wide}
@@ -22,5 +22,5 @@ pub record FrameFits (v : EncoderView) (samples : List ℤ) : Type 0 where
   pub rate-fits : v .rate ≤ mostRate
   pub whole : perChannel v samples * v .channels ≡ length samples
   pub some-samples : 0 < perChannel v samples
-  pub few-samples : perChannel v samples ≤ 5120
+  pub few-samples : perChannel v samples ≤ frameLen
   pub narrow : firstWide (v .channels) (v .lms) ≡ none

@@ -1,9 +1,23 @@
 -- The format's numbers and lengths. Assumes nothing.
-use Prim.Native.Nat.{ℕ, _+_, _*_, _/_}
+use Prim.Native.Nat.{ℕ, _+_, _-_, _*_, _/_}
 
 -- the most channels that a frame may have
 abbrev pub maxChannels : ℕ
 maxChannels = 8
+
+-- the samples of a slice, the slices of a channel for which a frame has room, and the samples of a channel in a full frame
+abbrev pub sliceLen : ℕ
+sliceLen = 20
+
+abbrev pub slicesPerFrame : ℕ
+slicesPerFrame = 256
+
+abbrev pub frameLen : ℕ
+frameLen = slicesPerFrame * sliceLen
+
+-- the most samples of a slice group, and so the most that a state holds as pending
+abbrev pub pendingLen : ℕ
+pendingLen = sliceLen * maxChannels
 
 -- the highest rate that 24 bits hold
 abbrev pub mostRate : ℕ
@@ -15,7 +29,7 @@ mostBytes = 4294967295
 
 -- ceil(n/20), the slices of each channel
 unfoldable pub slicesOf : ℕ → ℕ
-slicesOf n = (n + 19) / 20
+slicesOf n = (n + (sliceLen - 1)) / sliceLen
 
 -- where the slices of a frame start: after the header and four history and four weight numbers for each channel
 unfoldable pub stateEnd : ℕ → ℕ

@@ -6,7 +6,7 @@ use mathlib.Core.List.{List, [], _∷_, _++_}
 use lib.Dec.{T, ltb}
 use lib.ListN.{length}
 use Rattle.word.specs.Bytes.{be32}
-use Rattle.format.specs.Format.{maxChannels, stateEnd}
+use Rattle.format.specs.Format.{maxChannels, slicesPerFrame, stateEnd}
 use Rattle.format.specs.FileHeader.{magic}
 use Rattle.format.specs.Header.{headerAt, sizeSlices}
 use Rattle.format.specs.Part.{lengthOf}
@@ -18,7 +18,7 @@ pub record Passes (h : FrameHeader) : Type 0 where
   pub some-rate : 0 < h .rate
   pub past-state : stateEnd (h .channels) < h .size
   pub whole-groups : sizeSlices h % h .channels ≡ 0
-  pub few-groups : sizeSlices h / h .channels ≤ 256
+  pub few-groups : sizeSlices h / h .channels ≤ slicesPerFrame
   pub few-channels : h .channels ≤ maxChannels
 
 -- exactly the bytes of a frame with c channels at rate r

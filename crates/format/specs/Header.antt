@@ -7,7 +7,7 @@ use lib.ListN.{length}
 use Rattle.word.specs.Bytes.{be8, be16, be24}
 use Rattle.word.specs.Word.{field}
 use Rattle.refusal.specs.Rules.{Answer, good, refused, Rule, _gives_, after}
-use Rattle.format.specs.Format.{maxChannels, stateEnd}
+use Rattle.format.specs.Format.{maxChannels, slicesPerFrame, stateEnd}
 use Rattle.refusal.specs.Refusals.{numberOf}
 use Rattle.format.specs.declared.frame.FrameHeader.{FrameHeader}
 use Rattle.format.specs.declared.frame.HeaderAnswer.{HeaderAnswer}
@@ -32,7 +32,7 @@ headerRules h =
     ∷ (eqb (h .rate) 0 gives 3)
     ∷ (leb (h .size) (stateEnd (h .channels)) gives 3)
     ∷ (not (eqb (sizeSlices h % h .channels) 0) gives 3)
-    ∷ (ltb 256 (sizeSlices h / h .channels) gives 3)
+    ∷ (ltb slicesPerFrame (sizeSlices h / h .channels) gives 3)
     ∷ (ltb maxChannels (h .channels) gives 6)
     ∷ []
 

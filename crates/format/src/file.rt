@@ -1,6 +1,7 @@
 // The header of a file: `qoaf`, then the total of samples per channel.
 ghost use mathlib.Core.Path.{_≡_};
 ghost use Rattle.format.specs.FileHeader.{fileHeader};
+use crate::frame::QOA_HEADER_SIZE;
 use refusal::CountAnswer;
 use refusal::Refusal;
 ghost use Rattle.refusal.specs.Refusals.{toldCount};
@@ -16,7 +17,7 @@ pub fn file_header(bytes: &[u8]) -> CountAnswer
     if bytes.len() < 4 {
         return CountAnswer::Refused(Refusal::Truncated);
     }
-    if bytes.len() < 8 {
+    if bytes.len() < QOA_HEADER_SIZE {
         if word::read_u32(bytes, 0) != QOA_MAGIC {
             return CountAnswer::Refused(Refusal::NotQoaFile);
         }

@@ -29,7 +29,7 @@ use Rattle.refusal.specs.declared.Refusal.the-variants.{BadState, Truncated}
 use Rattle.groups.specs.Channel.{runAfter}
 use Rattle.groups.specs.Groups.{groupsStates}
 use Rattle.groups.proofs.GroupLaws.{groups-lms, groups-other, length-groups}
-use Rattle.state.specs.View.{View, factsIn, view}
+use Rattle.state.specs.View.{View, factsIn, movedTo, nonePending, view}
 use Rattle.state.specs.States.{goodState}
 use Rattle.state.specs.declared.QoaDecoder.{QoaDecoder}
 use Rattle.state.specs.declared.ProcessingMode.{ProcessingMode}
@@ -62,17 +62,7 @@ module _ (bs : List ℕ) (d : QoaDecoder) where
   unfolding view dropped table
   view-dropped room =
       let lms-is = lms-after bs d (slicesOf (d .remaining)) room in
-      λ i. record {
-        mode = d .mode;
-        at = d .at + 8 * (slicesOf (d .remaining) * d .frame .channels);
-        frame = d .frame;
-        remaining = 0;
-        next = 0;
-        end = 0;
-        pending = [];
-        given = true;
-        lms = lms-is i;
-      }
+      λ i. movedTo (view d) (d .frame) (d .at + 8 * (slicesOf (d .remaining) * d .frame .channels)) 0 nonePending (lms-is i)
 
   -- the state at the start of a frame
   abbrev pub startedAt : ℕ → FrameHeader → QoaDecoder
@@ -93,17 +83,7 @@ module _ (bs : List ℕ) (d : QoaDecoder) where
   unfolding view entered table
   view-started place h h-is room v mode-is at-is =
       let lms-is = stored-lms (λ j. lmsAt bs (place + 8 + 16 * j)) (d .lms) (h .channels) room in
-      rw (mode-is, at-is, ← h-is) (λ i. record {
-        mode = d .mode;
-        at = place + stateEnd (h .channels);
-        frame = factsIn h;
-        remaining = h .samples;
-        next = 0;
-        end = 0;
-        pending = [];
-        given = true;
-        lms = lms-is i;
-      })
+      rw (mode-is, at-is, ← h-is) (λ i. movedTo (view d) (factsIn h) (place + stateEnd (h .channels)) (h .samples) nonePending (lms-is i))
 
 -- ---- the checks of a frame, one after the other
 

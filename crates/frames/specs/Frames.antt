@@ -1,7 +1,7 @@
 -- Moving to the next frame. Assumes nothing.
 use Prim.Native.Nat.{ℕ, _+_, _*_}
 use mathlib.Core.Path.{_≡_}
-use mathlib.Core.Bool.{true, not, cond}
+use mathlib.Core.Bool.{not, cond}
 use mathlib.Core.List.{List, [], _∷_, _++_}
 use lib.Dec.{eqb, ltb}
 use lib.ListN.{length}
@@ -14,7 +14,7 @@ use Rattle.format.specs.Part.{cutRules}
 use Rattle.format.specs.Predictor.{lmsAt}
 use Rattle.refusal.specs.Refusals.{numberOf}
 use Rattle.format.specs.declared.frame.FrameHeader.{FrameHeader}
-use Rattle.state.specs.View.{View, channelsOf, factsIn, view}
+use Rattle.state.specs.View.{View, channelsOf, factsIn, movedTo, nonePending, view}
 use Rattle.state.specs.States.{goodState}
 use Rattle.state.specs.declared.QoaDecoder.{QoaDecoder}
 use Rattle.into.specs.Left.{Leaves}
@@ -29,17 +29,7 @@ use Rattle.frames.specs.declared.FrameAnswer.the-variants.{Frame, End, R
 -- ---- what remains of the current frame, decoded and dropped
 
 unfoldable pub dropped : List ℕ → View → View
-dropped bs v = record {
-  mode = v .mode;
-  at = groupsEnd v (slicesOf (v .remaining));
-  frame = v .frame;
-  remaining = 0;
-  next = 0;
-  end = 0;
-  pending = [];
-  given = true;
-  lms = groupsLms bs v (slicesOf (v .remaining));
-}
+dropped bs v = let q = slicesOf (v .remaining) in movedTo v (v .frame) (groupsEnd v q) 0 nonePending (groupsLms bs v q)
 
 -- ---- the frame at the place
 
@@ -65,17 +55,9 @@ enterRules bs v =
 
 -- the state at the start of the frame at the place
 unfoldable pub entered : List ℕ → View → View
-entered bs v = let h = headerAt bs (v .at) in record {
-  mode = v .mode;
-  at = v .at + stateEnd (h .channels);
-  frame = factsIn h;
-  remaining = h .samples;
-  next = 0;
-  end = 0;
-  pending = [];
-  given = true;
-  lms = table (h .channels) (λ j. lmsAt bs (v .at + 8 + 16 * j));
-}
+entered bs v =
+    let h = headerAt bs (v .at) in
+    movedTo v (factsIn h) (v .at + stateEnd (h .channels)) (h .samples) nonePending (table (h .channels) (λ j. lmsAt bs (v .at + 8 + 16 * j)))
 
 -- a frame, or the end
 pub data Found : Type 0 where

@@ -10,14 +10,14 @@ ghost use Rattle.word.specs.Bytes.{be64};
 ghost use Rattle.word.specs.Written.{written};
 ghost use Rattle.lms.specs.Parts.{WeightsWithin};
 ghost use Rattle.scale.specs.Tables.{dequantTab};
-ghost use Rattle.format.specs.Format.{maxChannels, slicesOf};
+ghost use Rattle.format.specs.Format.{maxChannels, sliceLen, slicesOf};
 ghost use Rattle.groups.specs.Channel.{channelAt, runAfter};
 ghost use Rattle.groups.specs.Groups.{groupsAt, groupsStates};
 ghost use Rattle.groups.specs.Parts.{AllWithin};
 
 // The samples of a slice, of those that are left: twenty, or fewer in a short one.
 fn slice_len(left: usize) -> usize
-    ensures { λ r. ⌜ r ≡ min 20 left ⌝ }
+    ensures { λ r. ⌜ r ≡ min sliceLen left ⌝ }
 {
     if left < QOA_SLICE_LEN {
         left

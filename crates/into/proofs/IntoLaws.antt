@@ -13,11 +13,11 @@ use Rattle.refusal.proofs.Rules.{fires, none-fires}
 use Rattle.word.proofs.Writes.{written-ext}
 use Rattle.word.proofs.Tests.{tests}
 use Rattle.refusal.specs.declared.Refusal.the-variants.{BadState, Truncated}
-use Rattle.state.specs.View.{view, waiting}
+use Rattle.state.specs.View.{view, waiting, flagged}
 use Rattle.state.specs.States.{goodState}
 use Rattle.state.specs.declared.QoaDecoder.{QoaDecoder}
 use Rattle.state.proofs.GoodStates.{good-facts}
-use Rattle.into.specs.Into.{IntoDone, comingAt, flagged, groupsEnd, groupsFor, intoAfter, intoCount, intoGroups, intoRules, takenFrom}
+use Rattle.into.specs.Into.{IntoDone, comingAt, groupsEnd, groupsFor, intoAfter, intoCount, intoGroups, intoRules, takenFrom}
 use Rattle.into.specs.declared.DecodedInto.{DecodedInto}
 use Rattle.refusal.specs.declared.CountAnswer.the-variants.{Count, Refused}
 use Rattle.into.proofs.Counts.{groups-none}

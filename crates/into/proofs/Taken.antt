@@ -16,9 +16,9 @@ use Rattle.lms.specs.declared.QoaLms.{QoaLms}
 use Rattle.format.specs.Format.{slicesOf}
 use Rattle.groups.specs.Groups.{groupsStates}
 use Rattle.groups.proofs.GroupLaws.{groups-more}
-use Rattle.state.specs.View.{View, view, waiting}
+use Rattle.state.specs.View.{View, movedTo, view, viewOf, waiting, flagged}
 use Rattle.state.specs.declared.QoaDecoder.{QoaDecoder}
-use Rattle.into.specs.Into.{comingAt, pendingTo, flagged, groupsFor, pendingFrom, rangeEnd, rangeNext, takenFrom}
+use Rattle.into.specs.Into.{comingAt, pendingTo, groupsFor, pendingFrom, rangeEnd, rangeNext, takenFrom}
 use Rattle.into.proofs.Counts.{Split, groups-are, groups-some, last-slices, samples-are}
 use Rattle.into.proofs.Ranges.{range-none, range-table, table-same}
 use Rattle.into.proofs.Coming.{coming-last, coming-pending, lastAside, lms-after, lms-same}
@@ -58,17 +58,7 @@ module _ (bs : List ℕ) (d : QoaDecoder) where
       let place : d .next + k + i ≡ d .next + (k + i) = omega arith in
       ap (λ (m : ℕ). getD (d .pending) m (pos 0)) place ∙ sym (coming-pending bs d (k + i) (omega arith))) in
       let lms-is = lms-same bs d in
-      λ i. record {
-        mode = d .mode;
-        at = at-is i;
-        frame = d .frame;
-        remaining = remaining-is i;
-        next = rangeNext (d .next + k) (d .end);
-        end = rangeEnd (d .next + k) (d .end);
-        pending = pending-is i;
-        given = g;
-        lms = lms-is i;
-      }
+      λ i. viewOf (d .mode) g (d .frame) (at-is i) (remaining-is i) (record { next = rangeNext (d .next + k) (d .end); end = rangeEnd (d .next + k) (d .end); samples = pending-is i }) (lms-is i)
 
 -- ---- after the pending samples and `more`
 
@@ -148,17 +138,7 @@ module _ (bs : List ℕ) (d : QoaDecoder) {more w r n : ℕ} (s : Split (d .fram
         let end-is = range-is .1 in
         let samples-same = range-table r (n * c) (λ i. getD (lastAside bs d (s .some-channels) room w (n * c) aside long) i (pos 0)) ∙ pending-is in
         let lms-is = lms-after bs d q room in
-        λ i. record {
-          mode = d .mode;
-          at = at-is i;
-          frame = d .frame;
-          remaining = remaining-is i;
-          next = next-is i;
-          end = end-is i;
-          pending = samples-same i;
-          given = true;
-          lms = lms-is i;
-        }
+        λ i. movedTo (view d) (d .frame) (at-is i) (remaining-is i) (record { next = next-is i; end = end-is i; samples = samples-same i }) (lms-is i)
 
     pub view-more-left :
         view (leftAt d (d .at + 8 * (w * c) + 8 * (slicesOf n * c)) (d .remaining - 20 * w - n) (rangeNext r (n * c)) (rangeEnd r (n * c)) true

@@ -1,12 +1,13 @@
 -- Decoding into a buffer: pending samples, then slice groups until the buffer is full or the frame is done. Assumes nothing.
 use Prim.Native.Nat.{ℕ, _+_, _-_, _*_, _/_, min}
 use mathlib.Core.Path.{_≡_}
-use mathlib.Core.Bool.{Bool, true, not, cond}
+use mathlib.Core.Bool.{not, cond}
 use mathlib.Core.List.{List, [], _∷_}
 use mathlib.Core.Option.{Option, none, some}
 use lib.Dec.{eqb, ltb}
 use lib.IntN.{ℤ, pos}
 use lib.ListN.{getD, length}
+use Rattle.format.specs.Format.{sliceLen}
 use Rattle.refusal.specs.Rules.{good, Rule, _gives_, after, firstOf}
 use Rattle.word.specs.Written.{table, written}
 use Rattle.lms.specs.declared.QoaLms.{QoaLms}
@@ -14,7 +15,7 @@ use Rattle.refusal.specs.Refusals.{toldCount}
 use Rattle.format.specs.Predictor.{lmsOf}
 use Rattle.groups.specs.Channel.{runAfter}
 use Rattle.groups.specs.Groups.{groupsAt, wordAt}
-use Rattle.state.specs.View.{View, channelsOf, total, view, waiting}
+use Rattle.state.specs.View.{Pending, View, channelsOf, movedTo, total, view, waiting}
 use Rattle.state.specs.States.{goodState}
 use Rattle.state.specs.declared.QoaDecoder.{QoaDecoder}
 use Rattle.into.specs.Left.{Leaves}
@@ -24,7 +25,7 @@ use Rattle.into.specs.declared.DecodedInto.{DecodedInto}
 
 -- how many groups give so many samples, all channels together: ceil(m / 20c)
 unfoldable pub groupsFor : ℕ → ℕ → ℕ
-groupsFor c m = (m + (20 * c - 1)) / (20 * c)
+groupsFor c m = (m + (sliceLen * c - 1)) / (sliceLen * c)
 
 -- where the groups that start at the place end
 abbrev pub groupsEnd : View → ℕ → ℕ
@@ -32,7 +33,7 @@ groupsEnd v q = v .at + 8 * (q * channelsOf v)
 
 -- the samples per channel that q groups give
 abbrev pub groupsSamples : View → ℕ → ℕ
-groupsSamples v q = min (20 * q) (v .remaining)
+groupsSamples v q = min (sliceLen * q) (v .remaining)
 
 -- the predictors after q groups
 unfoldable pub groupsLms : List ℕ → View → ℕ → List QoaLms
@@ -57,7 +58,7 @@ groupsNeeded v k = groupsFor (channelsOf v) (k - waiting v)
 
 -- what stands before the last of those groups, of all samples to come
 abbrev pub beforeLast : View → ℕ → ℕ
-beforeLast v q = waiting v + 20 * (q - 1) * channelsOf v
+beforeLast v q = waiting v + sliceLen * (q - 1) * channelsOf v
 
 -- the range after k samples: within the pending ones, or within the last group that was decoded
 abbrev pub pendingFrom : View → ℕ → ℕ → ℕ
@@ -66,33 +67,17 @@ pendingFrom v q k = cond (eqb q 0) (v .next + k) (k - beforeLast v q)
 abbrev pub pendingTo : View → ℕ → ℕ
 pendingTo v q = cond (eqb q 0) (v .end) (waiting v + groupsSamples v q * channelsOf v - beforeLast v q)
 
--- the state after k samples, for which q groups were decoded
-unfoldable pub takenFrom : List ℕ → View → ℕ → ℕ → View
-takenFrom bs v q k = record {
-  mode = v .mode;
-  at = groupsEnd v q;
-  frame = v .frame;
-  remaining = v .remaining - groupsSamples v q;
+-- what is pending then
+abbrev pub pendingAfter : List ℕ → View → ℕ → ℕ → Pending
+pendingAfter bs v q k = record {
   next = rangeNext (pendingFrom v q k) (pendingTo v q);
   end = rangeEnd (pendingFrom v q k) (pendingTo v q);
-  pending = table (pendingTo v q - pendingFrom v q k) (λ i. comingAt bs v (k + i));
-  given = true;
-  lms = groupsLms bs v q;
+  samples = table (pendingTo v q - pendingFrom v q k) (λ i. comingAt bs v (k + i));
 }
 
--- a state with its flag as it was
-abbrev pub flagged : Bool → View → View
-flagged given v = record {
-  mode = v .mode;
-  at = v .at;
-  frame = v .frame;
-  remaining = v .remaining;
-  next = v .next;
-  end = v .end;
-  pending = v .pending;
-  given = given;
-  lms = v .lms;
-}
+-- the state after k samples, for which q groups were decoded
+unfoldable pub takenFrom : List ℕ → View → ℕ → ℕ → View
+takenFrom bs v q k = movedTo v (v .frame) (groupsEnd v q) (v .remaining - groupsSamples v q) (pendingAfter bs v q k) (groupsLms bs v q)
 
 -- ---- the call, with a buffer of so much room
 

@@ -6,11 +6,11 @@ ghost use Prim.Native.Nat.{ℕ, _+_, _-_, _*_, _≤_, _<_, min};
 ghost use lib.IntN.{pos};
 ghost use lib.ListN.{getD, length};
 ghost use Rattle.word.specs.Written.{written};
-ghost use Rattle.format.specs.Format.{maxChannels};
-ghost use Rattle.state.specs.View.{view, waiting};
+ghost use Rattle.format.specs.Format.{maxChannels, pendingLen, sliceLen};
+ghost use Rattle.state.specs.View.{view, waiting, flagged};
 ghost use Rattle.state.specs.States.{goodState};
 ghost use Rattle.refusal.specs.declared.CountAnswer.the-variants.{Refused};
-ghost use Rattle.into.specs.Into.{IntoDone, comingAt, flagged, groupsEnd, groupsFor, rangeEnd, rangeNext, takenFrom};
+ghost use Rattle.into.specs.Into.{IntoDone, comingAt, groupsEnd, groupsFor, rangeEnd, rangeNext, takenFrom};
 use format::frame::QOA_SLICE_LEN;
 use refusal::CountAnswer;
 use refusal::Refusal;
@@ -48,7 +48,7 @@ fn pending_range(next: usize, end: usize) -> Range
 
 // Stores `n` of the pending samples, from `next` on, at `start` and after it.
 fn copy_out(from: &[i16; PENDING], next: usize, n: usize, out: &mut [i16], start: usize)
-    requires there { ⌜ next + n ≤ 20 * maxChannels ⌝ }
+    requires there { ⌜ next + n ≤ pendingLen ⌝ }
     requires room { ⌜ start + n ≤ length (now out) ⌝ }
     ensures { λ r. ⌜ now (out .exit) ≡ written (λ i. getD (now (from .entry)) (next + i) (pos 0)) (now (out .entry)) start 1 n ⌝ }
 {
@@ -60,7 +60,7 @@ fn copy_out(from: &[i16; PENDING], next: usize, n: usize, out: &mut [i16], start
 
 // The samples per channel of the last group, of which a part is asked for: none where nothing is.
 fn last_samples(rest: usize, left: usize) -> usize
-    ensures { λ r. ⌜ (rest ≡ 0 → r ≡ 0) × (0 < rest → r ≡ min 20 left) ⌝ }
+    ensures { λ r. ⌜ (rest ≡ 0 → r ≡ 0) × (0 < rest → r ≡ min sliceLen left) ⌝ }
 {
     if rest == 0 {
         0

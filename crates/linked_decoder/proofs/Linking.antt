@@ -13,7 +13,7 @@ use Rattle.refusal.specs.Rules.{Answer, Rule, after, firstOf, good, refused, _g
 use Rattle.word.specs.Bytes.{be16}
 use Rattle.refusal.proofs.Rules.{after-good, after-refused, fires, fires-left, fires-right, good-same, none-fires, unless-good}
 use Rattle.word.proofs.Tests.{tests}
-use Rattle.format.specs.Format.{maxChannels}
+use Rattle.format.specs.Format.{maxChannels, pendingLen}
 use Rattle.format.specs.declared.facts.Facts.{Facts}
 use Rattle.state.specs.Facts.{factsFor}
 use Rattle.state.specs.Opening.{OpenLeaves, openRules, openedAt}
@@ -44,12 +44,12 @@ either-fails false b X e f g = f refl
 bad-state : (block : List ℕ) (bytes : ℕ) → isDecoder block ≡ true → readableDecoder block ≡ false → goodState (decoderIn block) bytes ≡ false
 unfolding readableDecoder decoderIn frameIn
 bad-state block bytes is e =
-    let places = one-fails (isDecoder block) (leb (byteIn block 18) maxChannels && leb (be16 block 29) (20 * maxChannels)) e is in
+    let places = one-fails (isDecoder block) (leb (byteIn block 18) maxChannels && leb (be16 block 29) pendingLen) e is in
     fails _ (λ t.
     let g = good-facts (decoderIn block) bytes t in
-    either-fails (leb (byteIn block 18) maxChannels) (leb (be16 block 29) (20 * maxChannels)) _ places
+    either-fails (leb (byteIn block 18) maxChannels) (leb (be16 block 29) pendingLen) _ places
     (λ many. let m = leb-false (byteIn block 18) maxChannels many in let few = g .few-channels in absurd (omega arith))
-    (λ far. let m = leb-false (be16 block 29) (20 * maxChannels) far in let few = g .few-channels in let held = g .one-group in absurd (omega arith)))
+    (λ far. let m = leb-false (be16 block 29) pendingLen far in let few = g .few-channels in let held = g .one-group in absurd (omega arith)))
 
 pub unread : (block : List ℕ) (bytes : ℕ) (rest : List Rule) → readableDecoder block ≡ false → firstOf (blocked block ((not (goodState (decoderIn block) bytes) gives 8) ∷ rest)) ≡ some 8
 unfolding firstOf
@@ -63,7 +63,7 @@ unread block bytes rest e = by (isDecoder block) refl
 
 pub read-rules : (block : List ℕ) (rules : List Rule) → readableDecoder block ≡ true → firstOf (blocked block rules) ≡ firstOf rules
 unfolding readableDecoder firstOf
-read-rules block rules e = rw (and-left (isDecoder block) (leb (byteIn block 18) maxChannels && leb (be16 block 29) (20 * maxChannels)) e)
+read-rules block rules e = rw (and-left (isDecoder block) (leb (byteIn block 18) maxChannels && leb (be16 block 29) pendingLen) e)
 
 -- the state that a call leaves where no rule fires
 pub leaves : (o : Option ℕ) (d : QoaDecoder) (v : View) (s : QoaDecoder) → o ≡ none → Leaves o d v s → view s ≡ v

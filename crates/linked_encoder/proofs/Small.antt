@@ -13,7 +13,7 @@ use Rattle.encoder.specs.Encoder.{EncoderView}
 use Rattle.encoder.specs.Frame.{firstWide, encodeRules, perChannel}
 use Rattle.encoder.specs.Head.{headRules}
 use Rattle.encoder.proofs.Done.{frame-fits}
-use Rattle.encoder.proofs.Frames.{frame-small}
+use Rattle.encoder.proofs.Frames.{frame-most, frame-small}
 use Rattle.oneshot.specs.OneShot.{shotRules}
 use Rattle.oneshot.specs.Parts.{Small}
 use Rattle.oneshot.specs.Shots.{shotTold}
@@ -37,7 +37,7 @@ frame-told-small v samples room = by (firstOf (encodeRules v samples room)) (fir
     by none (some j) e f = lit< tt
     by none none e f =
         let fits = frame-fits v samples room e f .0 in
-        omega (arith, frame-small (v .channels) (perChannel v samples) (fits .few-channels) (fits .few-samples))
+        omega (arith, frame-small (v .channels) (perChannel v samples) (fits .few-channels) (fits .few-samples), frame-most)
 
 pub file-told-small : (v : EncoderView) (samples : List ℤ) (room : ℕ) → v .total < 2 ^ 32 → Small (shotTold (shotRules v samples room) v samples)
 file-told-small v samples room l = told-small (shotRules v samples room) v samples room l (shot-fits v samples room)

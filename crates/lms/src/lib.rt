@@ -13,8 +13,8 @@ pub const QOA_LMS_LEN: usize = 4;
 
 // Four numbers of history, the newest last, and a weight for each.
 pub struct QoaLms {
-    pub history: [i32; 4],
-    pub weights: [i32; 4],
+    pub history: [i32; QOA_LMS_LEN],
+    pub weights: [i32; QOA_LMS_LEN],
 }
 
 // The predictor of a new encoder.
@@ -28,7 +28,7 @@ pub fn new_lms() -> QoaLms
 }
 
 // The low bits of the sum of the first three products.
-pub fn older_dot(a: [i32; 4], b: [i32; 4]) -> u32
+pub fn older_dot(a: [i32; QOA_LMS_LEN], b: [i32; QOA_LMS_LEN]) -> u32
     ensures { λ r. ⌜ r ≡ low32 (olderDot a b) ⌝ }
 {
     let p0 = wrap::wrapping_mul(a[0], b[0]);
@@ -46,7 +46,7 @@ pub fn add_newest(older: u32, a: i32, b: i32) -> i32
 }
 
 // The sum of the four products, wrapped.
-fn wrapped_dot(a: [i32; 4], b: [i32; 4]) -> i32
+fn wrapped_dot(a: [i32; QOA_LMS_LEN], b: [i32; QOA_LMS_LEN]) -> i32
     ensures { λ r. ⌜ r ≡ wrap32 (dot a b) ⌝ }
 {
     add_newest(older_dot(a, b), a[3], b[3])
@@ -147,7 +147,7 @@ pub fn is_short(x: i32) -> bool
 }
 
 // Numbers of 16 bits.
-pub fn are_short(xs: [i32; 4]) -> bool
+pub fn are_short(xs: [i32; QOA_LMS_LEN]) -> bool
     ensures { λ r. ⌜ r ≡ allShort xs ⌝ }
 {
     for i in 0..QOA_LMS_LEN {

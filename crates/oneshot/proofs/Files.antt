@@ -10,7 +10,7 @@ use native.Mathlib.Omega.{arith}
 use lib.IntN.{ℤ}
 use lib.ListN.{length, take, drop, length-append, length-drop, length-take}
 use lib.Seq.{drop-append-add, drop-drop, take-all}
-use Rattle.format.specs.Format.{frameLength, slicesOf, stateEnd}
+use Rattle.format.specs.Format.{frameLen, frameLength, slicesOf, stateEnd}
 use Rattle.encoder.specs.Encoder.{EncoderView, encoderView}
 use Rattle.encoder.specs.Frame.{afterFrame, firstWide, frameBytes, perChannel}
 use Rattle.oneshot.specs.OneShot.{Stop, stateBefore, bytesBefore, chunk, fileBytes, fileNeed, framesIn, framesOf, needOf, stopIn}
@@ -33,13 +33,13 @@ take-min m l =
     (λ more. take-all (min m (length l)) l (omega arith) ∙ sym (take-all m l (omega arith)))
 
 -- as the code cuts them out
-pub chunk-part : (c : ℕ) (samples : List ℤ) (f end : ℕ) → end ≡ 5120 * c * f + min (5120 * c) (length samples - 5120 * c * f)
-    → take (end - 5120 * c * f) (drop (5120 * c * f) samples) ≡ chunk c samples f
+pub chunk-part : (c : ℕ) (samples : List ℤ) (f end : ℕ) → end ≡ frameLen * c * f + min (frameLen * c) (length samples - frameLen * c * f)
+    → take (end - frameLen * c * f) (drop (frameLen * c * f) samples) ≡ chunk c samples f
 unfolding chunk
 chunk-part c samples f end e =
-    let start : ℕ = 5120 * c * f in
-    let count : end - start ≡ min (5120 * c) (length (drop start samples)) = rw length-drop (omega arith) in
-    ap (λ (n : ℕ). take n (drop start samples)) count ∙ take-min (5120 * c) (drop start samples)
+    let start : ℕ = frameLen * c * f in
+    let count : end - start ≡ min (frameLen * c) (length (drop start samples)) = rw length-drop (omega arith) in
+    ap (λ (n : ℕ). take n (drop start samples)) count ∙ take-min (frameLen * c) (drop start samples)
 
 -- ---- what is laid on what
 
@@ -61,13 +61,13 @@ length-onto out xs h = simp (length-append, length-drop) (omega arith)
 
 -- samples per channel of frame f
 abbrev pub countIn : ℕ → ℕ → ℕ
-countIn total f = min 5120 (total - 5120 * f)
+countIn total f = min frameLen (total - frameLen * f)
 
-min-scaled : (d c : ℕ) → min (5120 * c) (d * c) ≡ min 5120 d * c
+min-scaled : (d c : ℕ) → min (frameLen * c) (d * c) ≡ min frameLen d * c
 min-scaled d c =
-    dite (decLe 5120 d)
-    (λ less. let m : min 5120 d ≡ 5120 = omega arith in rw m (omega (arith, mul-le-mul-right c less)))
-    (λ more. let under : d ≤ 5120 = omega arith in let m : min 5120 d ≡ d = omega arith in rw m (omega (arith, mul-le-mul-right c under)))
+    dite (decLe frameLen d)
+    (λ less. let m : min frameLen d ≡ frameLen = omega arith in rw m (omega (arith, mul-le-mul-right c less)))
+    (λ more. let under : d ≤ frameLen = omega arith in let m : min frameLen d ≡ d = omega arith in rw m (omega (arith, mul-le-mul-right c under)))
 
 module _ (v : EncoderView) (samples : List ℤ) where
   pub before-channels : (f : ℕ) → stateBefore v samples f .channels ≡ v .channels
@@ -99,37 +99,37 @@ module _ (v : EncoderView) (samples : List ℤ) where
   module _ (some-channels : 0 < v .channels) (long : length samples ≡ v .total * v .channels) where
     -- ---- lengths
 
-    pub chunk-long : (f : ℕ) → 5120 * f ≤ v .total → length (chunk (v .channels) samples f) ≡ countIn (v .total) f * v .channels
+    pub chunk-long : (f : ℕ) → frameLen * f ≤ v .total → length (chunk (v .channels) samples f) ≡ countIn (v .total) f * v .channels
     unfolding chunk
     chunk-long f h =
         let c = v .channels in
-        let d : ℕ = v .total - 5120 * f in
-        let cut : v .total ≡ 5120 * f + d = omega arith in
-        let rest : length samples - 5120 * c * f ≡ d * c = omega (arith, long, ap (λ (t : ℕ). t * c) cut) in
+        let d : ℕ = v .total - frameLen * f in
+        let cut : v .total ≡ frameLen * f + d = omega arith in
+        let rest : length samples - frameLen * c * f ≡ d * c = omega (arith, long, ap (λ (t : ℕ). t * c) cut) in
         rw (length-take, length-drop, rest) (min-scaled d c)
 
-    pub per-chunk : (f : ℕ) → 5120 * f ≤ v .total → perChannel (stateBefore v samples f) (chunk (v .channels) samples f) ≡ countIn (v .total) f
+    pub per-chunk : (f : ℕ) → frameLen * f ≤ v .total → perChannel (stateBefore v samples f) (chunk (v .channels) samples f) ≡ countIn (v .total) f
     per-chunk f h = rw (before-channels f, chunk-long f h) (mul-div-left (countIn (v .total) f) some-channels)
 
-    pub length-before : (f : ℕ) → f ≤ framesOf v → length (bytesBefore v samples f) ≡ 8 + (f * stateEnd (v .channels) + 8 * (v .channels * slicesOf (min (5120 * f) (v .total))))
+    pub length-before : (f : ℕ) → f ≤ framesOf v → length (bytesBefore v samples f) ≡ 8 + (f * stateEnd (v .channels) + 8 * (v .channels * slicesOf (min (frameLen * f) (v .total))))
     unfolding bytesBefore slicesOf framesIn frameLength
     length-before zero h =
-        let none : slicesOf (min (5120 * 0) (v .total)) ≡ 0 = omega arith in
+        let none : slicesOf (min (frameLen * 0) (v .total)) ≡ 0 = omega arith in
         omega (arith, length-head (v .total), ap (λ (n : ℕ). v .channels * n) none)
     length-before (suc f) h =
         let c = v .channels in
         let w = stateBefore v samples f in
         let xs = chunk c samples f in
-        let within : 5120 * f ≤ v .total = omega arith in
+        let within : frameLen * f ≤ v .total = omega arith in
         let frame : length (frameBytes w xs) ≡ frameLength c (countIn (v .total) f) = length-frame w xs ∙ ap₂ frameLength (before-channels f) (per-chunk f within) in
-        let sum : slicesOf (min (5120 * suc f) (v .total)) ≡ slicesOf (min (5120 * f) (v .total)) + slicesOf (countIn (v .total) f) = omega arith in
+        let sum : slicesOf (min (frameLen * suc f) (v .total)) ≡ slicesOf (min (frameLen * f) (v .total)) + slicesOf (countIn (v .total) f) = omega arith in
         omega (arith, length-append (bytesBefore v samples f) (frameBytes w xs), length-before f (omega arith), frame, ap (λ (n : ℕ). c * n) sum)
 
     -- the whole file is as long as its need
     pub file-long : length (fileBytes v samples) ≡ fileNeed v
     unfolding needOf framesIn
     file-long =
-        let all : min (5120 * framesOf v) (v .total) ≡ v .total = omega arith in
+        let all : min (frameLen * framesOf v) (v .total) ≡ v .total = omega arith in
         length-before (framesOf v) (omega arith) ∙ ap (λ (n : ℕ). 8 + (framesOf v * stateEnd (v .channels) + 8 * (v .channels * slicesOf n))) all
 
     -- its parts are no longer
@@ -137,14 +137,14 @@ module _ (v : EncoderView) (samples : List ℤ) where
     unfolding needOf slicesOf
     before-small f h =
         let c = v .channels in
-        let fewer : slicesOf (min (5120 * f) (v .total)) ≤ slicesOf (v .total) = omega arith in
+        let fewer : slicesOf (min (frameLen * f) (v .total)) ≤ slicesOf (v .total) = omega arith in
         omega (arith, length-before f h, mul-le-mul-right (stateEnd c) h, mul-le-mul-left c fewer)
 
     -- frame f starts behind f full ones
     pub place-before : (f : ℕ) → f < framesOf v → length (bytesBefore v samples f) ≡ framePlace (v .channels) f
     unfolding framePlace frameLength slicesOf framesIn
     place-before f h =
-        let full : slicesOf (min (5120 * f) (v .total)) ≡ 256 * f = omega arith in
+        let full : slicesOf (min (frameLen * f) (v .total)) ≡ 256 * f = omega arith in
         omega (arith, length-before f (omega arith), ap (λ (n : ℕ). v .channels * n) full)
 
     -- and ends within the need
@@ -158,7 +158,7 @@ module _ (v : EncoderView) (samples : List ℤ) where
     -- ---- one frame more, from a state that means the one before it
 
     module _ (g : Good v) (s : QoaEncoder) (f : ℕ) (same : encoderView s ≡ stateBefore v samples f) (h : f < framesOf v) where
-      within : 5120 * f < v .total
+      within : frameLen * f < v .total
       unfolding framesIn
       within = omega arith
 
@@ -175,10 +175,10 @@ module _ (v : EncoderView) (samples : List ℤ) where
           ∙ ap (λ (c : ℕ). firstWide c (stateBefore v samples f .lms)) (before-channels f)
 
       -- what `put_chunk` asks
-      pub chunk-starts : 5120 * s .channels * f ≤ length samples
+      pub chunk-starts : frameLen * s .channels * f ≤ length samples
       chunk-starts =
           let w = within in
-          let less : 5120 * f ≤ v .total = omega arith in
+          let less : frameLen * f ≤ v .total = omega arith in
           rw channels-are (omega (arith, long, mul-le-mul-right (v .channels) less))
 
       pub chunk-fits : firstWide (v .channels) (stateBefore v samples f .lms) ≡ none → FrameFits (encoderView s) (chunk (s .channels) samples f)

@@ -30,12 +30,12 @@ few-slices : (total : ℕ) → total < 2 ^ 32 → slicesOf total ≤ 214748366
 unfolding slicesOf
 few-slices total l = omega arith
 
-short-state : (c : ℕ) → c ≤ maxChannels → stateEnd c ≤ 136
+short-state : (c : ℕ) → c ≤ maxChannels → stateEnd c ≤ stateEnd maxChannels
 unfolding stateEnd
 short-state c few = omega arith
 
 pub need-small : (c total : ℕ) → c ≤ maxChannels → total < 2 ^ 32 → needOf c total < 2 ^ 40
-unfolding needOf
+unfolding needOf stateEnd
 need-small c total few l =
     omega (arith, mul-le-mul-left (framesIn total) (short-state c few), few-frames total l, mul-le-mul-right (slicesOf total) few, few-slices total l)
 

@@ -1,5 +1,5 @@
 -- A whole file in one shot: a file header, then frames of 5120 samples per channel, the last one shorter. Assumes nothing.
-use Prim.Native.Nat.{ℕ, zero, suc, _+_, _*_, _/_}
+use Prim.Native.Nat.{ℕ, zero, suc, _+_, _*_, _-_, _/_}
 use mathlib.Core.Bool.{not}
 use mathlib.Core.List.{List, [], _∷_, _++_}
 use mathlib.Core.Option.{Option, none, some}
@@ -7,18 +7,18 @@ use lib.Dec.{eqb, ltb}
 use lib.IntN.{ℤ}
 use lib.ListN.{length, take, drop}
 use Rattle.refusal.specs.Rules.{Rule, _gives_}
-use Rattle.format.specs.Format.{maxChannels, slicesOf, stateEnd}
+use Rattle.format.specs.Format.{frameLen, maxChannels, slicesOf, stateEnd}
 use Rattle.encoder.specs.Encoder.{EncoderView, goodEncoder}
 use Rattle.encoder.specs.Frame.{afterFrame, firstWide, frameBytes, frameSums}
 use Rattle.encoder.specs.Head.{headBytes}
 
 -- frame f's samples, of c channels
 unfoldable pub chunk : ℕ → List ℤ → ℕ → List ℤ
-chunk c samples f = take (5120 * c) (drop (5120 * c * f) samples)
+chunk c samples f = take (frameLen * c) (drop (frameLen * c * f) samples)
 
 -- ceil(total/5120)
 unfoldable pub framesIn : ℕ → ℕ
-framesIn total = (total + 5119) / 5120
+framesIn total = (total + (frameLen - 1)) / frameLen
 
 abbrev pub framesOf : EncoderView → ℕ
 framesOf v = framesIn (v .total)

@@ -4,7 +4,7 @@ ghost use mathlib.Core.Option.{none};
 ghost use Prim.Native.Nat.{_+_, _-_, _*_, _≤_, _<_, _^_, min};
 ghost use lib.ListN.{length};
 ghost use Rattle.refusal.specs.Rules.{firstOf};
-ghost use Rattle.format.specs.Format.{frameLength, maxChannels};
+ghost use Rattle.format.specs.Format.{frameLen, frameLength, maxChannels};
 ghost use Rattle.refusal.specs.Refusals.{toldChecked};
 ghost use Rattle.encoder.specs.Encoder.{encoderView};
 ghost use Rattle.encoder.specs.Frame.{afterFrame, frameBytes, perChannel};
@@ -74,7 +74,7 @@ fn frame_place(channels: usize, f: usize) -> usize
 
 // Stores frame `f` of a file.
 fn put_chunk(e: QoaEncoder, samples: &[i16], f: usize, out: &mut [u8]) -> QoaEncoder
-    requires small { ⌜ (f < 2 ^ 32) × (5120 * e .channels * f ≤ length (now samples)) ⌝ }
+    requires small { ⌜ (f < 2 ^ 32) × (frameLen * e .channels * f ≤ length (now samples)) ⌝ }
     requires fits { ⌜ FrameFits (encoderView e) (chunk (e .channels) (now samples) f) ⌝ }
     requires room { ⌜ framePlace (e .channels) f + frameLength (e .channels) (perChannel (encoderView e) (chunk (e .channels) (now samples) f)) ≤ length (now out) ⌝ }
     ensures state { λ r. ⌜ encoderView r ≡ afterFrame (encoderView e) (chunk (e .channels) (now (samples .entry)) f) ⌝ }

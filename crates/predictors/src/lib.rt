@@ -10,6 +10,7 @@ ghost use Rattle.wrap.specs.Wrap.{low16};
 ghost use Rattle.format.specs.Format.{maxChannels};
 ghost use Rattle.format.specs.Predictor.{fourWord, lmsAt};
 use format::frame::QOA_MAX_CHANNELS;
+use lms::QOA_LMS_LEN;
 use lms::QoaLms;
 ghost use Rattle.format.specs.Parts.{fourOf, putLms};
 
@@ -22,7 +23,7 @@ fn number_in(word: u64, below: u32) -> i32
 }
 
 // The four numbers of a word.
-fn four_of(word: u64) -> [i32; 4]
+fn four_of(word: u64) -> [i32; QOA_LMS_LEN]
     ensures { λ r. ⌜ r ≡ fourOf word ⌝ }
 {
     [
@@ -69,7 +70,7 @@ fn low_half(x: i32) -> u64
 }
 
 // The word of four numbers.
-fn four_word(xs: [i32; 4]) -> u64
+fn four_word(xs: [i32; QOA_LMS_LEN]) -> u64
     ensures { λ r. ⌜ r ≡ fourWord xs ⌝ }
 {
     let a = low_half(xs[0]);

@@ -1,6 +1,7 @@
 // Reads a QOA file on standard input and writes its samples, 16-bit little-endian, on standard output.
 // A refusal is whole-file decoding's number on standard error, after the samples of the frames before it.
 use format::FrameHeader;
+use format::QOA_HEADER_SIZE;
 use refusal::Checked;
 use refusal::CountAnswer;
 use refusal::Refusal;
@@ -76,10 +77,10 @@ fn refuse(refusal: Refusal, read: u64, buffer: &mut [u8]) -> Run {
 
 // The file header.
 fn start(buffer: &mut [u8]) -> Run {
-    if buffer.len() < 8 {
+    if buffer.len() < QOA_HEADER_SIZE {
         return stopped();
     }
-    let got = stdio::fill(&mut buffer[0..8]);
+    let got = stdio::fill(&mut buffer[0..QOA_HEADER_SIZE]);
     if got.failed {
         return stopped();
     }
@@ -95,7 +96,7 @@ fn begin(n: usize, buffer: &mut [u8]) -> Run {
         CountAnswer::Refused(refusal) => refuse(refusal, n as u64, buffer),
         CountAnswer::Count(total) => Run {
             going: true,
-            read: 8,
+            read: QOA_HEADER_SIZE as u64,
             fixed: total != 0,
             channels: 0,
             rate: 0,
@@ -260,17 +261,17 @@ fn frame(run: Run, h: FrameHeader, buffer: &mut [u8], block: &mut [i16], bytes: 
     if buffer.len() < end {
         return stopped();
     }
-    if end < 8 {
+    if end < QOA_HEADER_SIZE {
         return stopped();
     }
-    let got = stdio::fill(&mut buffer[8..end]);
+    let got = stdio::fill(&mut buffer[QOA_HEADER_SIZE..end]);
     if got.failed {
         return stopped();
     }
     if MOST_BYTES < run.read {
         return stopped();
     }
-    let part = 8 + got.count;
+    let part = QOA_HEADER_SIZE + got.count;
     let read = run.read + part as u64;
     let first = first_for(run, h);
     match survey::check_frame(h, left_for(run, h, part), Kind::Like(first)) {
@@ -281,13 +282,13 @@ fn frame(run: Run, h: FrameHeader, buffer: &mut [u8], block: &mut [i16], bytes: 
 
 // One frame, or the end of the input.
 fn step(run: Run, buffer: &mut [u8], block: &mut [i16], bytes: &mut [u8]) -> Run {
-    if buffer.len() < 8 {
+    if buffer.len() < QOA_HEADER_SIZE {
         return stopped();
     }
     if MOST_BYTES < run.read {
         return stopped();
     }
-    let got = stdio::fill(&mut buffer[0..8]);
+    let got = stdio::fill(&mut buffer[0..QOA_HEADER_SIZE]);
     if got.failed {
         return stopped();
     }
@@ -296,7 +297,7 @@ fn step(run: Run, buffer: &mut [u8], block: &mut [i16], bytes: &mut [u8]) -> Run
     if MOST_BYTES < read {
         return refuse(Refusal::InputTooLong, read, buffer);
     }
-    if n < 8 {
+    if n < QOA_HEADER_SIZE {
         return finish(run, n, buffer);
     }
     let h = format::read_header(buffer, 0);

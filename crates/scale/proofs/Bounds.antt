@@ -8,7 +8,7 @@ use lib.Dec.{leb, ltb}
 use lib.IntN.{ℤ, natAbs, pos, negsuc}
 use lib.ListN.{getD, length}
 use native.Mathlib.Omega.{arith}
-use Rattle.scale.specs.Tables.{reciprocalOf, rowFor, rowOf, factorOf, factors}
+use Rattle.scale.specs.Tables.{fixedOne, reciprocalOf, rowFor, rowOf, factorOf, factors}
 use Rattle.scale.specs.Division.{codeFor, codes, placeOf}
 use Rattle.scale.proofs.Table.{agree, values}
 
@@ -21,9 +21,9 @@ pub code-lt : (quotient : ℤ) → codeFor quotient < 8
 unfolding codeFor codes
 code-lt quotient = ltb-true _ _ (agree (λ i. ltb (getD codes i 0) 8) (λ i. true) 17 refl (placeOf quotient) (place-lt quotient))
 
-pub reciprocal-small : (k : ℕ) → k < 16 → reciprocalOf k ≤ 65536
+pub reciprocal-small : (k : ℕ) → k < 16 → reciprocalOf k ≤ fixedOne
 unfolding reciprocalOf factorOf factors
-reciprocal-small k h = leb-true _ _ (agree (λ i. leb (reciprocalOf i) 65536) (λ i. true) 16 refl k h)
+reciprocal-small k h = leb-true _ _ (agree (λ i. leb (reciprocalOf i) fixedOne) (λ i. true) 16 refl k h)
 
 pub row-length : (k : ℕ) → length (rowOf k) ≡ 8
 unfolding rowOf rowFor

@@ -1,6 +1,6 @@
 -- The tables: the scale factors, what each code stands for, and the reciprocals.
 -- Assumes nothing.
-use Prim.Native.Nat.{ℕ, _+_, _-_, _*_, _/_}
+use Prim.Native.Nat.{ℕ, _+_, _-_, _*_, _/_, _^_}
 use mathlib.Core.List.{List, [], _∷_, map}
 use lib.ListN.{getD}
 use lib.IntN.{ℤ, pos, negℤ}
@@ -12,13 +12,17 @@ factors = 1 ∷ 7 ∷ 21 ∷ 45 ∷ 84 ∷ 138 ∷ 211 ∷ 304 ∷ 421 ∷ 562 �
 unfoldable pub factorOf : ℕ → ℕ
 factorOf k = getD factors k 0
 
+-- 1 as a product shifted right 16 has it
+abbrev pub fixedOne : ℕ
+fixedOne = 2 ^ 16
+
 -- 65536 / s, rounded up
 unfoldable pub reciprocalOf : ℕ → ℕ
-reciprocalOf k = (65536 + factorOf k - 1) / factorOf k
+reciprocalOf k = (fixedOne + factorOf k - 1) / factorOf k
 
 -- those of all sixteen
 unfoldable pub reciprocalTab : List ℤ
-reciprocalTab = map (λ (s : ℕ). pos ((65536 + s - 1) / s)) factors
+reciprocalTab = map (λ (s : ℕ). pos ((fixedOne + s - 1) / s)) factors
 
 -- a magnitude, followed by its negative
 abbrev pub both : ℕ → List ℤ → List ℤ

@@ -54,7 +54,7 @@ const QOA_DEQUANT_TAB: [[i32; 8]; 16] = [
     [1536, -1536, 5120, -5120, 9216, -9216, 14336, -14336],
 ];
 
-// The reciprocal of a scale factor.
+// The reciprocal of a scale factor, for the plain division below; the search takes `reciprocals`.
 pub fn reciprocal(sf: usize) -> i32
     requires { ⌜ sf < 16 ⌝ }
     ensures { λ r. ⌜ r ≡ pos (reciprocalOf sf) ⌝ }
@@ -76,7 +76,7 @@ pub fn dequant_tab() -> [[i32; 8]; 16]
     QOA_DEQUANT_TAB
 }
 
-// 1, 0 or -1.
+// 1, 0 or -1: the signs of the plain division.
 pub fn sign(x: i32) -> i32
     ensures { λ r. ⌜ r ≡ signOf x ⌝ }
 {
@@ -89,7 +89,9 @@ pub fn sign(x: i32) -> i32
     }
 }
 
-// The quotient of v by a scale factor, rounded, as the product with its reciprocal gives it.
+// The quotient of v by a scale factor, in the plain form of the specification's division: the product with its reciprocal,
+// rounded. The search runs the quick rows, which are proved to give the same; this form is what the vectors (replay's
+// `divide`) and the comparison with the source (tools/leaves) run.
 pub fn qoa_div(v: i32, sf: usize) -> i32
     requires { ⌜ sf < 16 ⌝ }
     ensures { λ r. ⌜ r ≡ dividedBy v sf ⌝ }
@@ -99,7 +101,7 @@ pub fn qoa_div(v: i32, sf: usize) -> i32
     n + sign(v) - sign(n)
 }
 
-// The code of a quotient.
+// The code of a quotient, in the plain form: a clamp and a look-up. Only the comparison with the source (tools/leaves) runs it.
 pub fn code(quotient: i32) -> u8
     ensures { λ r. ⌜ r ≡ codeFor quotient ⌝ }
 {

@@ -1,12 +1,10 @@
 // The quick rows: a residual's code and table value by its place in a row, which takes in the division's repair of signs.
 ghost use mathlib.Core.Path.{_≡_};
-ghost use Prim.Native.Nat.{_<_, _^_, min};
-ghost use lib.IntN.{pos, _+ℤ_, _*ℤ_};
+ghost use Prim.Native.Nat.{ℕ, _<_, min};
+ghost use lib.IntN.{pos};
 ghost use lib.ListN.{getD};
-ghost use lib.Signed.{shrZ};
-ghost use Rattle.wrap.specs.Wrap.{wrap32};
-ghost use Rattle.scale.specs.Tables.{dequantTab, reciprocalTab, rowOf};
-ghost use Rattle.scale.specs.Division.{codeFor, dividedBy};
+ghost use Rattle.scale.specs.Tables.{dequantTab, reciprocalOf, reciprocalTab, rowOf};
+ghost use Rattle.scale.specs.Division.{codeFor, dividedBy, shifted};
 ghost use Rattle.scale.specs.Parts.{halfOf, quickCodes, quickPlace, quickRow, quickTab};
 
 // The code at each place: a half for residuals from 0 up, then one for those below. In each the shifted product is -7 to 7,
@@ -96,10 +94,10 @@ fn least(a: u32, b: u32) -> u32
     if a < b { a } else { b }
 }
 
-// The place of a residual in its half: the shifted product plus 7 (458752 is 7 times 65536). One of 8 and more comes to 15;
+// The place of a residual in its half, by a scale factor's reciprocal: the shifted product plus 7 (458752 is 7 times 65536). One of 8 and more comes to 15;
 // one of -8 and less wraps to a large number, and comes to 16.
 fn place(v: i32, reciprocal: i32) -> usize
-    ensures { λ r. ⌜ r ≡ quickPlace (shrZ (wrap32 (v *ℤ reciprocal +ℤ pos 32768)) (2 ^ 16)) ⌝ }
+    ensures { λ r. ⌜ ((k : ℕ) → reciprocal ≡ pos (reciprocalOf k) → r ≡ quickPlace (shifted v k)) ⌝ }
 {
     let product = wrap::wrapping_mul(v, reciprocal);
     let sum = std::num::wrapping_add_u32(product, 32768);

@@ -1,8 +1,10 @@
 // The search for a slice's scale factor.
+use format::frame::QOA_SLICE_LEN;
 use lms::QoaLms;
 ghost use mathlib.Core.Path.{_≡_};
 ghost use Prim.Native.Nat.{_+_, _-_, _*_, _≤_, _<_, _^_};
 ghost use lib.ListN.{length, take};
+ghost use Rattle.format.specs.Format.{sliceLen};
 ghost use Rattle.lms.specs.Predictor.{at};
 ghost use Rattle.scale.specs.Parts.{quickCodes, quickRow, quickTab};
 ghost use Rattle.scale.specs.Tables.{dequantTab, reciprocalTab, rowOf};
@@ -50,11 +52,11 @@ pub struct Encoded {
 }
 
 // The samples of one channel, side by side.
-fn gather(samples: &[i16], start: usize, stride: usize, n: usize) -> [i16; 20]
-    requires { ⌜ (0 < n) × (n ≤ 20) × (start + (n - 1) * stride < length (now samples)) ⌝ }
+fn gather(samples: &[i16], start: usize, stride: usize, n: usize) -> [i16; QOA_SLICE_LEN]
+    requires { ⌜ (0 < n) × (n ≤ sliceLen) × (start + (n - 1) * stride < length (now samples)) ⌝ }
     ensures { λ r. ⌜ (take n r ≡ strided n (now (samples .entry)) start stride) × SamplesFit (strided n (now (samples .entry)) start stride) ⌝ }
 {
-    let mut taken: [i16; 20] = [0; 20];
+    let mut taken: [i16; QOA_SLICE_LEN] = [0; QOA_SLICE_LEN];
     for i in 0..n {
         let sample = samples[start + i * stride];
         taken[i] = sample;
@@ -162,7 +164,7 @@ fn choose(
 ) -> Counted
     requires { ⌜ (now tab ≡ dequantTab) × (WeightsWithin (2 ^ 29) lms) ⌝ }
     requires { ⌜ (now quick ≡ quickTab) × (now reciprocals ≡ reciprocalTab) × (now coding ≡ quickCodes) ⌝ }
-    requires { ⌜ (0 < length (now samples)) × (length (now samples) ≤ 20) × SamplesFit (now samples) ⌝ }
+    requires { ⌜ (0 < length (now samples)) × (length (now samples) ≤ sliceLen) × SamplesFit (now samples) ⌝ }
     ensures { λ r. ⌜ r ≡ countedOf lms (now (samples .entry)) ⌝ }
 {
     let first = first_trials(tab, reciprocals, coding, lms, samples);
@@ -220,7 +222,7 @@ pub fn encode_slice(
 ) -> Encoded
     requires { ⌜ (now tab ≡ dequantTab) × (WeightsWithin (2 ^ 29) lms) ⌝ }
     requires { ⌜ (now quick ≡ quickTab) × (now reciprocals ≡ reciprocalTab) × (now coding ≡ quickCodes) ⌝ }
-    requires { ⌜ (0 < n) × (n ≤ 20) × (start + (n - 1) * stride < length (now samples)) ⌝ }
+    requires { ⌜ (0 < n) × (n ≤ sliceLen) × (start + (n - 1) * stride < length (now samples)) ⌝ }
     ensures { λ r. ⌜ r ≡ encodedSlice lms (strided n (now (samples .entry)) start stride) ⌝ }
 {
     let taken = gather(samples, start, stride, n);

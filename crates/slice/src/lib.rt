@@ -7,6 +7,7 @@ ghost use Prim.Native.Nat.{ℕ, _+_, _*_, _^_, _≤_, _<_};
 ghost use mathlib.Core.List.{List};
 ghost use lib.IntN.{ℤ};
 ghost use lib.ListN.{length};
+ghost use Rattle.format.specs.Format.{sliceLen};
 ghost use Rattle.word.specs.Word.{codeOf, scaleOf};
 ghost use Rattle.word.specs.Written.{written};
 ghost use Rattle.lms.specs.Predictor.{at};
@@ -19,7 +20,7 @@ ghost use Rattle.slice.specs.Parts.{GainsOf, HeardTo};
 
 // The table value of the i-th code of a word, by a row of the table.
 fn value_at(row: &[i32; 8], word: u64, i: usize) -> i32
-    requires { ⌜ i < 20 ⌝ }
+    requires { ⌜ i < sliceLen ⌝ }
     ensures { λ r. ⌜ r ≡ at (now (row .entry)) (codeOf word i) ⌝ }
 {
     let code = word::code(word, i);
@@ -29,7 +30,7 @@ fn value_at(row: &[i32; 8], word: u64, i: usize) -> i32
 // The i-th sample of a slice, whose row of the table is handed in.
 fn hear_code(row: &[i32; 8], lms: QoaLms, word: u64, i: usize) -> Heard
     requires row { ⌜ now row ≡ rowOf (scaleOf word) ⌝ }
-    requires small { ⌜ (WeightsWithin (2 ^ 30) lms) × (i < 20) ⌝ }
+    requires small { ⌜ (WeightsWithin (2 ^ 30) lms) × (i < sliceLen) ⌝ }
     ensures { λ r. ⌜ r ≡ heard lms (residualAt word i) ⌝ }
 {
     trial::hear(lms, value_at(row, word, i))
@@ -59,8 +60,8 @@ struct Part {
 
 // The word without its first `n` codes: those after them come first.
 fn drop_codes(word: u64, n: usize) -> u64
-    requires { ⌜ n ≤ 20 ⌝ }
-    ensures { λ r. ⌜ ((j : ℕ) → n + j < 20 → codeOf r j ≡ codeOf word (n + j)) ⌝ }
+    requires { ⌜ n ≤ sliceLen ⌝ }
+    ensures { λ r. ⌜ ((j : ℕ) → n + j < sliceLen → codeOf r j ≡ codeOf word (n + j)) ⌝ }
 {
     word << (3 * n)
 }
@@ -79,7 +80,7 @@ fn hear_quiet(
 ) -> Part
     requires row { ⌜ now row ≡ rowOf (scaleOf word) ⌝ }
     requires gains { ⌜ GainsOf (now gains) (rowOf (scaleOf word)) ⌝ }
-    requires small { ⌜ (WeightsWithin (2 ^ 29 + 17920) lms) × (from ≤ to) × (to ≤ 20) ⌝ }
+    requires small { ⌜ (WeightsWithin (2 ^ 29 + 17920) lms) × (from ≤ to) × (to ≤ sliceLen) ⌝ }
     requires room { ⌜ ((i : ℕ) → i < to → start + i * stride < length (now out)) ⌝ }
     ensures done { λ r. ⌜ r .done ≤ to ⌝ }
     ensures heard { λ r. ⌜ ((s : QoaLms) (o : List ℤ) → HeardTo word s o start stride from lms (now (out .entry)) → HeardTo word s o start stride (r .done) (r .lms) (now (out .exit))) ⌝ }
@@ -117,7 +118,7 @@ fn hear_fours(
 ) -> Part
     requires row { ⌜ now row ≡ rowOf (scaleOf word) ⌝ }
     requires gains { ⌜ GainsOf (now gains) (rowOf (scaleOf word)) ⌝ }
-    requires small { ⌜ (WeightsWithin (2 ^ 29) lms) × (4 * fours ≤ 20) ⌝ }
+    requires small { ⌜ (WeightsWithin (2 ^ 29) lms) × (4 * fours ≤ sliceLen) ⌝ }
     requires room { ⌜ ((i : ℕ) → i < 4 * fours → start + i * stride < length (now out)) ⌝ }
     ensures done { λ r. ⌜ r .done ≤ 4 * fours ⌝ }
     ensures heard { λ r. ⌜ HeardTo word lms (now (out .entry)) start stride (r .done) (r .lms) (now (out .exit)) ⌝ }
@@ -157,7 +158,7 @@ fn hear_loud(
 ) -> QoaLms
     requires row { ⌜ now row ≡ rowOf (scaleOf word) ⌝ }
     requires gains { ⌜ GainsOf (now gains) (rowOf (scaleOf word)) ⌝ }
-    requires small { ⌜ (WeightsWithin (2 ^ 29 + 17920) lms) × (from ≤ count) × (count ≤ 20) ⌝ }
+    requires small { ⌜ (WeightsWithin (2 ^ 29 + 17920) lms) × (from ≤ count) × (count ≤ sliceLen) ⌝ }
     requires room { ⌜ ((i : ℕ) → i < count → start + i * stride < length (now out)) ⌝ }
     ensures { λ r. ⌜ ((s : QoaLms) (o : List ℤ) → HeardTo word s o start stride from lms (now (out .entry)) → HeardTo word s o start stride count r (now (out .exit))) ⌝ }
 {
@@ -206,7 +207,7 @@ fn hear_stored(
 ) -> QoaLms
     requires row { ⌜ now row ≡ rowOf (scaleOf word) ⌝ }
     requires gains { ⌜ GainsOf (now gains) (rowOf (scaleOf word)) ⌝ }
-    requires small { ⌜ (WeightsWithin (2 ^ 29) lms) × (count ≤ 20) ⌝ }
+    requires small { ⌜ (WeightsWithin (2 ^ 29) lms) × (count ≤ sliceLen) ⌝ }
     requires room { ⌜ ((i : ℕ) → i < count → start + i * stride < length (now out)) ⌝ }
     ensures state { λ r. ⌜ r ≡ stateAfter word lms count ⌝ }
     ensures samples { λ r. ⌜ now (out .exit) ≡ written (sampleAt word lms) (now (out .entry)) start stride count ⌝ }
@@ -221,8 +222,8 @@ fn hear_stored(
 // The samples of a slice from one on, heard and not stored, for the predictor's sake.
 fn hear_rest(row: &[i32; 8], lms: QoaLms, word: u64, from: usize) -> QoaLms
     requires row { ⌜ now row ≡ rowOf (scaleOf word) ⌝ }
-    requires small { ⌜ (WeightsWithin (2 ^ 29 + 17920) lms) × (from ≤ 20) ⌝ }
-    ensures { λ r. ⌜ ((s : QoaLms) → lms ≡ stateAfter word s from → r ≡ stateAfter word s 20) ⌝ }
+    requires small { ⌜ (WeightsWithin (2 ^ 29 + 17920) lms) × (from ≤ sliceLen) ⌝ }
+    ensures { λ r. ⌜ ((s : QoaLms) → lms ≡ stateAfter word s from → r ≡ stateAfter word s sliceLen) ⌝ }
 {
     let mut state = lms;
     for i in from..QOA_SLICE_LEN {
@@ -243,9 +244,9 @@ pub fn decode_slice(
     count: usize,
 ) -> QoaLms
     requires table { ⌜ now tab ≡ dequantTab ⌝ }
-    requires small { ⌜ (WeightsWithin (2 ^ 29) lms) × (count ≤ 20) ⌝ }
+    requires small { ⌜ (WeightsWithin (2 ^ 29) lms) × (count ≤ sliceLen) ⌝ }
     requires room { ⌜ ((i : ℕ) → i < count → start + i * stride < length (now out)) ⌝ }
-    ensures state { λ r. ⌜ r ≡ stateAfter word lms 20 ⌝ }
+    ensures state { λ r. ⌜ r ≡ stateAfter word lms sliceLen ⌝ }
     ensures samples { λ r. ⌜ now (out .exit) ≡ written (sampleAt word lms) (now (out .entry)) start stride count ⌝ }
 {
     let sf = word::scale_factor(word);

@@ -9,7 +9,7 @@ use borrow.Author.Tests.{eq-eqb, ne-eqb}
 use lib.Dec.{ltb}
 use lib.IntN.{ℤ}
 use lib.ListN.{length}
-use Rattle.refusal.specs.Rules.{good, refused, _gives_, after, firstOf}
+use Rattle.refusal.specs.Rules.{good, refused, _gives_, firstOf}
 use Rattle.word.specs.Written.{table, written}
 use Rattle.refusal.proofs.Rules.{after-good, after-refused, fires, fires-left, fires-right, good-same, none-fires, quiet, quiet-parts}
 use Rattle.word.proofs.Tests.{tests}
@@ -23,7 +23,7 @@ use Rattle.format.specs.declared.frame.FrameHeader.{FrameHeader}
 use Rattle.refusal.specs.declared.Refusal.{Refusal}
 use Rattle.format.proofs.Headers.{passes}
 use Rattle.lms.specs.declared.QoaLms.{QoaLms}
-use Rattle.state.specs.View.{factsIn, view}
+use Rattle.state.specs.View.{factsIn, nonePending, view, viewOf}
 use Rattle.state.specs.Opening.{OpenLeaves, firstRules, openRules, openedAt, openedFixed, openedStream, zeroState}
 use Rattle.state.specs.declared.QoaDecoder.{QoaDecoder}
 use Rattle.state.specs.declared.ProcessingMode.the-variants.{FixedSamples}
@@ -105,17 +105,7 @@ module _ (bs : List ℕ) where
   unfolding view openedFixed table
   fixed-view total h states pending e f room =
       let lms = stored-lms (λ j. lmsAt bs (16 + 16 * j)) states (first .channels) (rw f at room) in
-      rw (e, f) (λ i. record {
-        mode = FixedSamples (totalOf bs) (first .channels) (first .rate);
-        at = 8 + stateEnd (first .channels);
-        frame = factsIn first;
-        remaining = first .samples;
-        next = 0;
-        end = 0;
-        given = false;
-        lms = lms i;
-        pending = [];
-      })
+      rw (e, f) (λ i. viewOf (FixedSamples (totalOf bs) (first .channels) (first .rate)) false (factsIn first) (8 + stateEnd (first .channels)) (first .samples) nonePending (lms i))
 
   -- what the contract says
   abbrev pub Opens : Checked → QoaDecoder → Type 0

@@ -10,12 +10,12 @@ use lib.ListN.{replicate}
 use Rattle.refusal.specs.Rules.{Rule, _gives_}
 use Rattle.word.specs.Written.{table}
 use Rattle.lms.specs.Predictor.{zeroLms}
-use Rattle.format.specs.Format.{maxChannels, stateEnd}
+use Rattle.format.specs.Format.{maxChannels, pendingLen, stateEnd}
 use Rattle.format.specs.FileHeader.{fileRules, isFixed, totalOf}
 use Rattle.format.specs.Header.{headerAt, headerRules, leftAt}
 use Rattle.format.specs.Part.{cutRules}
 use Rattle.format.specs.Predictor.{lmsAt}
-use Rattle.state.specs.View.{View, view, factsIn}
+use Rattle.state.specs.View.{View, factsIn, noFrame, nonePending, view, viewOf}
 use Rattle.state.specs.declared.QoaDecoder.{QoaDecoder}
 use Rattle.state.specs.declared.ProcessingMode.the-variants.{FixedSamples, Streaming}
 
@@ -31,30 +31,12 @@ openRules bs = fileRules bs ++ cond (isFixed (totalOf bs)) (firstRules bs) []
 
 -- fixed: at the first frame's slices. Streaming: no frame was read
 unfoldable pub openedFixed : List ℕ → View
-openedFixed bs = let h = headerAt bs 8 in record {
-  mode = FixedSamples (totalOf bs) (h .channels) (h .rate);
-  at = 8 + stateEnd (h .channels);
-  frame = factsIn h;
-  remaining = h .samples;
-  next = 0;
-  end = 0;
-  pending = [];
-  given = false;
-  lms = table (h .channels) (λ j. lmsAt bs (16 + 16 * j));
-}
+openedFixed bs =
+    let h = headerAt bs 8 in
+    viewOf (FixedSamples (totalOf bs) (h .channels) (h .rate)) false (factsIn h) (8 + stateEnd (h .channels)) (h .samples) nonePending (table (h .channels) (λ j. lmsAt bs (16 + 16 * j)))
 
 unfoldable pub openedStream : View
-openedStream = record {
-  mode = Streaming;
-  at = 8;
-  frame = record { channels = 0; rate = 0; samples = 0 };
-  remaining = 0;
-  next = 0;
-  end = 0;
-  pending = [];
-  given = false;
-  lms = [];
-}
+openedStream = viewOf Streaming false noFrame 8 0 nonePending []
 
 unfoldable pub openedAt : List ℕ → View
 openedAt bs = cond (isFixed (totalOf bs)) (openedFixed bs) openedStream
@@ -64,13 +46,13 @@ unfoldable pub zeroState : QoaDecoder
 zeroState = record {
   mode = Streaming;
   at = 0;
-  frame = record { channels = 0; rate = 0; samples = 0 };
+  frame = noFrame;
   remaining = 0;
   next = 0;
   end = 0;
   given = false;
   lms = replicate maxChannels zeroLms;
-  pending = replicate (20 * maxChannels) (pos 0);
+  pending = replicate pendingLen (pos 0);
 }
 
 -- the state that is handed back

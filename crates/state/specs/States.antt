@@ -8,7 +8,7 @@ use lib.ListN.{length}
 use Rattle.word.specs.Below.{below}
 use Rattle.lms.specs.Predictor.{at, historyRule}
 use Rattle.lms.specs.declared.QoaLms.{QoaLms}
-use Rattle.format.specs.Format.{maxChannels, mostRate, slicesOf}
+use Rattle.format.specs.Format.{maxChannels, mostRate, sliceLen, slicesOf}
 use Rattle.format.specs.Predictor.{lmsOf}
 use Rattle.state.specs.View.{View, channelsOf}
 use Rattle.state.specs.declared.ProcessingMode.{ProcessingMode}
@@ -45,5 +45,5 @@ goodState v bytes =
     && (someChannels (channelsOf v) (v .remaining)
     && (leb (v .remaining) (v .frame .samples)
     && (leb (v .next) (v .end)
-    && (leb (v .end) (20 * channelsOf v)
+    && (leb (v .end) (sliceLen * channelsOf v)
     && lmsRule (channelsOf v) (weightBound (v .remaining)) (v .lms)))))))

@@ -1,7 +1,7 @@
 -- What a decoder's state means: pending entries outside next..end and unused channels are left out. Assumes nothing.
 use Prim.Native.Nat.{ℕ, _+_, _-_, _*_}
-use mathlib.Core.Bool.{Bool}
-use mathlib.Core.List.{List}
+use mathlib.Core.Bool.{Bool, true}
+use mathlib.Core.List.{List, []}
 use lib.IntN.{ℤ, pos}
 use lib.ListN.{getD}
 use Rattle.word.specs.Written.{table}
@@ -52,6 +52,45 @@ waiting v = v .end - v .next
 
 abbrev pub total : View → ℕ
 total v = waiting v + v .remaining * channelsOf v
+
+-- ---- a state changed in some of its parts
+
+-- the range of pending samples, and those samples
+pub record Pending : Type 0 where
+  pub next : ℕ
+  pub end : ℕ
+  pub samples : List ℤ
+
+abbrev pub nonePending : Pending
+nonePending = record { next = 0; end = 0; samples = [] }
+
+-- a state by its parts: the mode, whether the first header was given, the frame, the place, what remains, what is pending, the predictors
+abbrev pub viewOf : ProcessingMode → Bool → FrameFacts → ℕ → ℕ → Pending → List QoaLms → View
+viewOf mode given frame at remaining pending lms = record {
+  mode = mode;
+  at = at;
+  frame = frame;
+  remaining = remaining;
+  next = pending .next;
+  end = pending .end;
+  pending = pending .samples;
+  given = given;
+  lms = lms;
+}
+
+-- a state moved on: frame, place, what remains, what is pending and the predictors are other ones; the mode stays, and the first header counts as given
+abbrev pub movedTo : View → FrameFacts → ℕ → ℕ → Pending → List QoaLms → View
+movedTo v frame at remaining pending lms = viewOf (v .mode) true frame at remaining pending lms
+
+-- a state with the flag of the first header set so
+abbrev pub flagged : Bool → View → View
+flagged given v = viewOf (v .mode) given (v .frame) (v .at) (v .remaining) (record { next = v .next; end = v .end; samples = v .pending }) (v .lms)
+
+-- ---- frames
+
+-- no frame was read
+abbrev pub noFrame : FrameFacts
+noFrame = record { channels = 0; rate = 0; samples = 0 }
 
 -- what is told of a frame by its header
 abbrev pub factsIn : FrameHeader → FrameFacts

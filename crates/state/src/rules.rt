@@ -3,7 +3,7 @@ ghost use mathlib.Core.Path.{_≡_};
 ghost use mathlib.Core.Bool.{_&&_};
 ghost use Prim.Native.Nat.{_≤_, _*_};
 ghost use lib.Dec.{leb};
-ghost use Rattle.format.specs.Format.{maxChannels};
+ghost use Rattle.format.specs.Format.{maxChannels, sliceLen};
 ghost use Rattle.state.specs.View.{view};
 ghost use Rattle.state.specs.States.{modeRule, someChannels, weightRule, weightBound, lmsRule, goodState};
 use crate::FrameFacts;
@@ -66,7 +66,7 @@ fn is_good_frame(frame: FrameFacts, remaining: u16) -> bool
 
 // The pending samples lie within one slice of every channel.
 fn is_good_range(next: usize, end: usize, channels: u8) -> bool
-    ensures { λ r. ⌜ r ≡ (leb next end && leb end (20 * channels)) ⌝ }
+    ensures { λ r. ⌜ r ≡ (leb next end && leb end (sliceLen * channels)) ⌝ }
 {
     if end < next {
         return false;

@@ -1,7 +1,7 @@
--- The theorems of demand 3: what a clerk hears is what the converter heard. Read this file first: the statements are all that a visitor needs of it, next
+-- Theorems 1 to 5, those of demand 3: what a clerk hears is what the converter heard. Read this file first: the statements are all that a visitor needs of it, next
 -- to the definitions that they cite. `decode room bytes` is whole-file decoding into an output with room for so many samples: `good` and what is heard, or
--- a refusal by its number (format/specs/Reader). `IsCut k bytes` says that the grammar cuts the bytes into the parts k: a file header, one or more frames,
--- a tail (header/specs/Grammar). What is said of a file, as `HasCut`, stands in specs/Claims. A `Finished` file is one that the writer finishes
+-- a refusal by its number (file/specs/Whole). `IsCut k bytes` says that the grammar cuts the bytes into the parts k: a file header, one or more frames,
+-- a tail (format/specs/Grammar). What is said of a file, as `HasCut`, stands in specs/Claims. A `Finished` file is one that the writer finishes
 -- (specs/Finished). Theorem 6, that each public call has one answer, has a file of its own beside this one, Settled, with a theorem for each call.
 -- Assumes nothing.
 use Prim.Native.Nat.{ℕ, _≤_}
@@ -53,8 +53,22 @@ cut-heard room bytes k a is e =
     let same : a ≡ audioOf k = h .audio ∙ ap audioOf (sym (h .only k is)) in
     (ap (λ (x : Audio). x .samples) same, same)
 
--- 5, from which 4 follows. Every file that the writer finishes, of at most 4294967295 bytes, reads sample for sample as the writer's reconstruction, where
--- there is room for as many samples as were given. The reconstruction is defined from samples and starting state alone,
+-- 4. Every file that the writer finishes, of at most 4294967295 bytes, is accepted where there is room for as many samples as were given,
+pub finished-accepted : (f : Finished) (room : ℕ) → length (bytesIn f) ≤ mostBytes → length (givenIn f) ≤ room → Accepts room (bytesIn f)
+unfolding bytesIn givenIn
+finished-accepted (one-shot v samples room count told) into few enough = (_, shot-reads-back v samples (shot v samples room count told) into few enough)
+finished-accepted (from-start c rate total samples room count told) into few enough =
+    (_, shot-reads-back (newView c rate total) samples (shot-new c rate total samples room count told) into few enough)
+finished-accepted (in-pieces total v first others all) into few enough = (_, reads-back total v first others (all-taken v (first ∷ others) all) into few enough)
+
+-- and whatever its length it is in the grammar, and has no tail.
+pub finished-in-grammar : (f : Finished) → HasCutWithoutTail (bytesIn f)
+unfolding bytesIn
+finished-in-grammar (one-shot v samples room count told) = shot-tailless v samples (shot v samples room count told)
+finished-in-grammar (from-start c rate total samples room count told) = shot-tailless (newView c rate total) samples (shot-new c rate total samples room count told)
+finished-in-grammar (in-pieces total v first others all) = tailless total v first others (all-taken v (first ∷ others) all)
+
+-- 5. And it reads sample for sample as the writer's reconstruction, which is defined from samples and starting state alone,
 pub finished-heard : (f : Finished) (room : ℕ) → length (bytesIn f) ≤ mostBytes → length (givenIn f) ≤ room
     → decode room (bytesIn f) ≡ good (record { channels = startIn f .channels; rate = startIn f .rate; samples = reconstructionIn f })
 unfolding bytesIn givenIn startIn reconstructionIn
@@ -68,17 +82,6 @@ unfolding givenIn reconstructionIn
 finished-many (one-shot v samples room count told) = shot-many v samples (shot v samples room count told)
 finished-many (from-start c rate total samples room count told) = shot-many (newView c rate total) samples (shot-new c rate total samples room count told)
 finished-many (in-pieces total v first others all) = as-many v (first ∷ others) (all-taken v (first ∷ others) all)
-
--- 4. So it is accepted,
-pub finished-accepted : (f : Finished) (room : ℕ) → length (bytesIn f) ≤ mostBytes → length (givenIn f) ≤ room → Accepts room (bytesIn f)
-finished-accepted f room few enough = (record { channels = startIn f .channels; rate = startIn f .rate; samples = reconstructionIn f }, finished-heard f room few enough)
-
--- and whatever its length it is in the grammar, and has no tail.
-pub finished-in-grammar : (f : Finished) → HasCutWithoutTail (bytesIn f)
-unfolding bytesIn
-finished-in-grammar (one-shot v samples room count told) = shot-tailless v samples (shot v samples room count told)
-finished-in-grammar (from-start c rate total samples room count told) = shot-tailless (newView c rate total) samples (shot-new c rate total samples room count told)
-finished-in-grammar (in-pieces total v first others all) = tailless total v first others (all-taken v (first ∷ others) all)
 
 -- ---- The files of 4 and 5 are what the encoder's calls leave in the lent output, by their own contracts (encoder/specs/Calls).
 

@@ -13,7 +13,7 @@ use Rattle.word.specs.Bytes.{byteOf, bytesOf}
 use Rattle.word.proofs.BytesLaws.{be-of, byte-at, length-bytes}
 use Rattle.word.proofs.Tables.{getD-table, table-ext}
 use Rattle.lms.specs.declared.QoaLms.{QoaLms}
-use Rattle.format.specs.Format.{frameLength, maxChannels, slicesOf, stateEnd}
+use Rattle.format.specs.Format.{frameLen, frameLength, maxChannels, slicesOf, stateEnd}
 use Rattle.format.specs.Grammar.{IsFrame, Passes}
 use Rattle.format.specs.Header.{headerAt, headerWord, sizeSlices}
 use Rattle.format.specs.Predictor.{lmsAt, lmsOf, noLms}
@@ -45,7 +45,7 @@ pub record Taken (v : EncoderView) (samples : List ℤ) : Type 0 where
   pub good : Good v
   pub some-samples : 0 < length samples
   pub whole : length samples % v .channels ≡ 0
-  pub few-samples : perChannel v samples ≤ 5120
+  pub few-samples : perChannel v samples ≤ frameLen
   pub narrow : firstWide (v .channels) (v .lms) ≡ none
 
 factor-pos : (a b : ℕ) → 0 < a * b → 0 < a

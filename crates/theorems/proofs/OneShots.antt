@@ -12,7 +12,7 @@ use lib.Seq.{take-add, take-all}
 use Rattle.refusal.specs.Rules.{good}
 use Rattle.word.specs.Written.{table}
 use Rattle.word.proofs.Tables.{length-table, table-last}
-use Rattle.format.specs.Format.{mostBytes}
+use Rattle.format.specs.Format.{frameLen, mostBytes}
 use Rattle.file.specs.Whole.{decode}
 use Rattle.encoder.specs.Encoder.{EncoderView}
 use Rattle.encoder.specs.Frame.{afterFrame, firstWide, frameBytes, frameSums}
@@ -90,16 +90,16 @@ module _ (v : EncoderView) (samples : List ℤ) where
   sums-are zero = refl
   sums-are (suc f) = rw (sums-are f, before-is f) (sym (ap (framesSums v) (table-last f (piece v samples)) ∙ sums-more (piece v samples f) v (chunks f)))
 
-  given-is : (f : ℕ) → allGiven (chunks f) ≡ take (5120 * v .channels * f) samples
+  given-is : (f : ℕ) → allGiven (chunks f) ≡ take (frameLen * v .channels * f) samples
   unfolding allGiven table chunk
-  given-is zero = ap (λ (k : ℕ). take k samples) (sym (mul-zero (5120 * v .channels)))
+  given-is zero = ap (λ (k : ℕ). take k samples) (sym (mul-zero (frameLen * v .channels)))
   given-is (suc f) =
       let c = v .channels in
-      let place : 5120 * c * f + 5120 * c ≡ 5120 * c * suc f = omega arith in
+      let place : frameLen * c * f + frameLen * c ≡ frameLen * c * suc f = omega arith in
       ap allGiven (table-last f (piece v samples))
       ∙ given-more (piece v samples f) (chunks f)
       ∙ ap (λ (l : List ℤ). l ++ piece v samples f) (given-is f)
-      ∙ sym (take-add (5120 * c * f) (5120 * c) samples)
+      ∙ sym (take-add (frameLen * c * f) (frameLen * c) samples)
       ∙ ap (λ (k : ℕ). take k samples) place
 
 -- ---- they are taken
@@ -122,7 +122,7 @@ module _ (v : EncoderView) (samples : List ℤ) where
       ⊎-elim (λ (q : f ≡ n). rw q (stop-none n _ (both .1))) (λ less. narrow-at n (both .0) f less) (eq-or-lt-of-le (le-of-suc-le-suc h))
 
 module _ (v : EncoderView) (samples : List ℤ) (s : Shot v samples) where
-  starts-within : (f : ℕ) → f < framesOf v → 5120 * f < v .total
+  starts-within : (f : ℕ) → f < framesOf v → frameLen * f < v .total
   unfolding framesIn
   starts-within f h = omega arith
 
@@ -153,9 +153,9 @@ module _ (v : EncoderView) (samples : List ℤ) (s : Shot v samples) where
   unfolding framesIn
   all-given =
       let c = v .channels in
-      let more : v .total ≤ 5120 * framesOf v = omega arith in
+      let more : v .total ≤ frameLen * framesOf v = omega arith in
       let reach = mul-le-mul-right c more in
-      given-is v samples (framesOf v) ∙ take-all (5120 * c * framesOf v) samples (omega (arith, s .whole))
+      given-is v samples (framesOf v) ∙ take-all (frameLen * c * framesOf v) samples (omega (arith, s .whole))
 
   some-frames : 0 < framesOf v
   unfolding framesIn

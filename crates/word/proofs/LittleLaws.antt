@@ -1,33 +1,21 @@
--- Laws of little-endian numbers, for every width, and of samples as pairs of bytes: what was stored is what is read. Assumes nothing.
+-- Laws of little-endian numbers and of samples as pairs of bytes: what was stored is what is read. Assumes nothing.
 use mathlib.Core.Path.{_≡_, refl, sym, ap, _∙_}
 use mathlib.Core.List.{List, [], _∷_, _++_, append-assoc}
-use Prim.Native.Nat.{ℕ, zero, suc, _+_, _-_, _*_, _/_, _%_, _^_, _<_, _≤_}
-use native.Mathlib.Nat.{add-assoc, add-zero, zero-add, mul-one, mul-zero, pow-suc, div-one, div-lt-iff-lt-mul, div-add-mod', le-of-suc-le-suc, not-suc-le-zero}
+use Prim.Native.Nat.{ℕ, zero, suc, _+_, _-_, _*_, _/_, _%_, _<_, _≤_}
+use native.Mathlib.Nat.{le-of-suc-le-suc, not-suc-le-zero}
 use native.Mathlib.Numerals.{add-one}
 use native.Mathlib.Omega.{arith}
-use lib.Dec.{lit<, lit≤}
+use lib.Dec.{lit≤}
 use lib.IntN.{ℤ, pos}
 use lib.ListN.{length, take, drop, set, getD, length-append, length-take}
-use lib.Pow.{shr-shr}
 use lib.Seq.{take-suc, drop-cons, set-append-seam}
 use mir.Syntax.{w16}
 use mir.Val.{SFits}
 use Rattle.wrap.specs.Wrap.{low16}
 use Rattle.wrap.proofs.Patterns.{read-low}
-use Rattle.word.specs.Little.{le, leBytes, lowByte, putLow, leSample}
-use Rattle.word.proofs.Writes.{written-at}
+use Rattle.word.specs.Little.{le, leBytes, leSample}
 
 -- ---- numbers
-
--- the bytes of a number above its lowest are those of its 256th part
-low-suc : (w i : ℕ) → lowByte w (suc i) ≡ lowByte (w / 256) i
-unfolding lowByte
-low-suc w i =
-    let more : 8 * suc i ≡ 8 + 8 * i = omega arith in
-    rw (more, ← shr-shr w 8 (8 * i))
-
-one-add : (i : ℕ) → 1 + i ≡ suc i
-one-add i = omega arith
 
 -- a byte more below the i bytes that were read, from the top of n bytes on
 pub byte-more : (n i : ℕ) (bs : List ℕ) (p : ℕ) → i < n → le (i + 1) bs (p + (n - (i + 1))) ≡ le i bs (p + (n - i)) * 256 + getD bs (p + (n - 1 - i)) 0
@@ -36,21 +24,6 @@ byte-more n i bs p h =
     let here : p + (n - (i + 1)) ≡ p + (n - 1 - i) = omega arith in
     let above : p + (n - 1 - i) + 1 ≡ p + (n - i) = omega arith in
     rw (here, add-one i, above) (omega arith)
-
--- where a number's bytes stand, the number is read
-pub le-of : (n w : ℕ) (bs : List ℕ) (p : ℕ) → ((i : ℕ) → i < n → getD bs (p + i) 0 ≡ lowByte w i) → w < 256 ^ n → le n bs p ≡ w
-unfolding le lowByte
-le-of zero w bs p same small = omega arith
-le-of (suc n) w bs p same small =
-    let first : getD bs p 0 ≡ w % 256 = simp (add-zero, div-one) at (same 0 (omega arith)) in
-    let rest : le n bs (p + 1) ≡ w / 256 =
-    le-of n (w / 256) bs (p + 1) (λ i h. rw (add-assoc p 1 i, one-add i) (same (suc i) (omega arith) ∙ low-suc w i)) (omega (arith, pow-suc 256 n)) in
-    rw (first, rest) (omega arith)
-
--- what was stored is what is read
-pub le-of-put : (n : ℕ) (out : List ℕ) (p w : ℕ) → w < 256 ^ n → p + n ≤ length out → le n (putLow n out p w) p ≡ w
-le-of-put n out p w small room =
-    le-of n w (putLow n out p w) p (λ i h. rw mul-one at (written-at (lowByte w) out p 1 n i 0 (lit< tt) h (omega (arith, mul-one i)))) small
 
 -- ---- samples
 

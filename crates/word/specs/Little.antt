@@ -1,25 +1,16 @@
 -- Numbers in bytes with the lowest byte first, and 16-bit samples as two such bytes each. Assumes nothing.
-use Prim.Native.Nat.{ℕ, zero, suc, _+_, _*_, _/_, _%_, _^_}
+use Prim.Native.Nat.{ℕ, zero, suc, _+_, _*_, _/_, _%_}
 use mathlib.Core.List.{List, [], _∷_}
 use lib.IntN.{ℤ}
 use lib.ListN.{getD}
 use mir.Syntax.{w16}
 use mir.Val.{toZ}
 use Rattle.wrap.specs.Wrap.{low16}
-use Rattle.word.specs.Written.{written}
 
 -- the number of the n bytes from the place p on
 unfoldable pub le : ℕ → List ℕ → ℕ → ℕ
 le zero bs p = 0
 le (suc n) bs p = getD bs p 0 + 256 * le n bs (p + 1)
-
--- the i-th byte of a number, the lowest being the first
-unfoldable pub lowByte : ℕ → ℕ → ℕ
-lowByte w i = w / 2 ^ (8 * i) % 256
-
--- `out` with the n lowest bytes of w stored from the place p on
-abbrev pub putLow : ℕ → List ℕ → ℕ → ℕ → List ℕ
-putLow n out p w = written (lowByte w) out p 1 n
 
 -- the bytes of samples
 unfoldable pub leBytes : List ℤ → List ℕ

@@ -1,10 +1,10 @@
-// Big-endian numbers in bytes, and the fields of a slice's 64-bit word; little-endian numbers and samples in `little`.
+// Big-endian numbers in bytes, and the fields of a slice's 64-bit word; little-endian samples in `little`.
 pub mod little;
 
 ghost use mathlib.Core.Path.{_≡_};
 ghost use Prim.Native.Nat.{_+_, _*_, _^_, _≤_, _<_};
 ghost use lib.ListN.{length};
-ghost use Rattle.word.specs.Bytes.{be, be16, be24, be32, be64, put};
+ghost use Rattle.word.specs.Bytes.{be, be16, be32, be64, put};
 ghost use Rattle.word.specs.Word.{scaleOf, codeOf, filled};
 
 // The number with one byte more, pushed in from below.
@@ -33,14 +33,6 @@ pub fn read_u16(bytes: &[u8], at: usize) -> u16
     ensures { λ r. ⌜ r ≡ be16 (now (bytes .entry)) at ⌝ }
 {
     read_be(bytes, at, 2) as u16
-}
-
-// The 24-bit number at a place.
-pub fn read_u24(bytes: &[u8], at: usize) -> u32
-    requires { ⌜ at + 3 ≤ length (now bytes) ⌝ }
-    ensures { λ r. ⌜ r ≡ be24 (now (bytes .entry)) at ⌝ }
-{
-    read_be(bytes, at, 3) as u32
 }
 
 // The 32-bit number at a place.

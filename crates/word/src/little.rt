@@ -1,9 +1,9 @@
-// Little-endian numbers in bytes, and 16-bit samples as such.
+// 16-bit samples as little-endian bytes, stored and read.
 ghost use mathlib.Core.Path.{_≡_};
 ghost use mathlib.Core.List.{_++_};
 ghost use Prim.Native.Nat.{_+_, _*_, _^_, _≤_, _<_};
 ghost use lib.ListN.{length, take, drop};
-ghost use Rattle.word.specs.Little.{le, leBytes, putLow, leSample};
+ghost use Rattle.word.specs.Little.{le, leBytes, leSample};
 ghost use Rattle.word.specs.Written.{written};
 use crate::push_byte;
 
@@ -20,45 +20,11 @@ fn read_le(bytes: &[u8], at: usize, n: usize) -> u64
 }
 
 // The 16-bit number at a place.
-pub fn read_u16(bytes: &[u8], at: usize) -> u16
+fn read_u16(bytes: &[u8], at: usize) -> u16
     requires { ⌜ at + 2 ≤ length (now bytes) ⌝ }
     ensures { λ r. ⌜ r ≡ le 2 (now (bytes .entry)) at ⌝ }
 {
     read_le(bytes, at, 2) as u16
-}
-
-// The 32-bit number at a place.
-pub fn read_u32(bytes: &[u8], at: usize) -> u32
-    requires { ⌜ at + 4 ≤ length (now bytes) ⌝ }
-    ensures { λ r. ⌜ r ≡ le 4 (now (bytes .entry)) at ⌝ }
-{
-    read_le(bytes, at, 4) as u32
-}
-
-// Stores the lowest `n` bytes of a number from a place on, the lowest first.
-fn write_le(out: &mut [u8], at: usize, word: u64, n: usize)
-    requires { ⌜ (n ≤ 8) × (at + n ≤ length (now out)) ⌝ }
-    ensures { λ r. ⌜ now (out .exit) ≡ putLow n (now (out .entry)) at word ⌝ }
-{
-    for i in 0..n {
-        out[at + i] = ((word >> (8 * i)) & 255) as u8;
-    }
-}
-
-// Stores a 16-bit number at a place.
-pub fn write_u16(out: &mut [u8], at: usize, word: u16)
-    requires { ⌜ at + 2 ≤ length (now out) ⌝ }
-    ensures { λ r. ⌜ now (out .exit) ≡ putLow 2 (now (out .entry)) at word ⌝ }
-{
-    write_le(out, at, word as u64, 2);
-}
-
-// Stores a 32-bit number at a place.
-pub fn write_u32(out: &mut [u8], at: usize, word: u32)
-    requires { ⌜ at + 4 ≤ length (now out) ⌝ }
-    ensures { λ r. ⌜ now (out .exit) ≡ putLow 4 (now (out .entry)) at word ⌝ }
-{
-    write_le(out, at, word as u64, 4);
 }
 
 // The first `n` samples of a block as bytes, at the start of `out`.

@@ -13,7 +13,7 @@ use Rattle.word.specs.Bytes.{bytesOf}
 use Rattle.word.proofs.Writes.{length-written}
 use Rattle.lms.specs.declared.QoaLms.{QoaLms}
 use Rattle.lms.proofs.Bounds.{within-more}
-use Rattle.format.specs.Format.{slicesOf}
+use Rattle.format.specs.Format.{maxChannels, slicesOf, slicesPerFrame}
 use Rattle.format.specs.Predictor.{lmsOf, noLms}
 use Rattle.search.specs.Search.{strided}
 use Rattle.search.proofs.Fitting.{strided-length}
@@ -32,7 +32,7 @@ group states samples n channels g = laid channels (λ j. bytesOf 8 (sliceWord (l
 abbrev Inv-loop : tie.InvT-loop
 Inv-loop channels samples n out₀ at tab coding quick reciprocals slices next₀ g₀ out next g =
     (g ≤ slices)
-    × (length next ≡ 8)
+    × (length next ≡ maxChannels)
     × ((k : ℕ) → k < channels → lmsOf next k ≡ lmsBefore (lmsOf next₀ k) (strided n samples k channels) g)
     × (out ≡ overlaid out₀ at (laid g (group next₀ samples n channels)))
 
@@ -63,7 +63,7 @@ unfolding lmsBefore laid
 loop-holds c = (omega arith, search needs, λ k h. refl, sym (over-nil _ _))
 
 -- the group has samples, and the frame at most 256 groups
-some : (c : tie.In-loop Inv-loop μ-loop) → (20 * c .before .loop .g < startOf (c .before .before) .args .n) × (c .before .loop .g ≤ 256)
+some : (c : tie.In-loop Inv-loop μ-loop) → (20 * c .before .loop .g < startOf (c .before .before) .args .n) × (c .before .loop .g ≤ slicesPerFrame)
 unfolding slicesOf
 some c =
     let start = startOf (c .before .before) in

@@ -6,7 +6,7 @@ use native.Mathlib.Nat.{mul-le-mul-right}
 use native.Mathlib.Omega.{arith}
 use lib.Dec.{lit<, lit≤}
 use lib.ListN.{length}
-use Rattle.format.specs.Format.{maxChannels}
+use Rattle.format.specs.Format.{maxChannels, pendingLen}
 use Rattle.lms.proofs.Bounds.{within-more}
 use Rattle.groups.specs.Groups.{groupsStates}
 use Rattle.groups.proofs.GroupLaws.{groups-more}
@@ -17,7 +17,7 @@ use Rattle.frames.proofs.run_groups.Statement.{statement}
 use Rattle.frames.proofs.run_groups.Tie as tie
 
 abbrev Inv-loop : tie.InvT-loop
-Inv-loop bytes at channels groups tab scratch₀ all₀ g₀ scratch all g = (g ≤ groups) × (all ≡ groupsStates bytes at channels all₀ g) × (length scratch ≡ 20 * maxChannels)
+Inv-loop bytes at channels groups tab scratch₀ all₀ g₀ scratch all g = (g ≤ groups) × (all ≡ groupsStates bytes at channels all₀ g) × (length scratch ≡ pendingLen)
 
 abbrev μ-loop : tie.MeasureT-loop
 μ-loop bytes at channels groups tab scratch₀ all₀ g₀ scratch all g = groups - g

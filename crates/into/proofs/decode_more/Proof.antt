@@ -12,7 +12,7 @@ use Rattle.word.specs.Written.{written}
 use Rattle.word.proofs.Writes.{length-written}
 use Rattle.lms.specs.declared.QoaLms.{QoaLms}
 use Rattle.lms.proofs.Bounds.{within-more}
-use Rattle.format.specs.Format.{maxChannels, slicesOf}
+use Rattle.format.specs.Format.{maxChannels, pendingLen, slicesOf}
 use Rattle.groups.specs.Groups.{groupsAt, groupsStates}
 use Rattle.state.specs.View.{view}
 use Rattle.into.specs.Into.{groupsFor}
@@ -170,7 +170,7 @@ last-bytes c =
     let all = rw (groups-are (split c)) at (bytes-there start) in
     omega arith
 
-last-room : (c : tie.After-last-samples) → c .last-samples .result * channels (start-of c) ≤ 20 * maxChannels
+last-room : (c : tie.After-last-samples) → c .last-samples .result * channels (start-of c) ≤ pendingLen
 last-room c = mul-le-mul (last-few (split c)) (facts (start-of c) .few-channels)
 
 -- the predictors after the whole groups
@@ -274,7 +274,7 @@ returns c =
     let n = told .last-samples .result in
     let m = n * channels start in
     let s = split told in
-    let aside : List ℤ = replicate (20 * maxChannels) (pos 0) in
+    let aside : List ℤ = replicate pendingLen (pos 0) in
     let used : channels start ≤ length (d .lms) = omega (arith, long start, facts start .few-channels) in
     let fits : m ≤ length aside = rw length-replicate (last-room told) in
     let run = run-is (told .before .before .before) in

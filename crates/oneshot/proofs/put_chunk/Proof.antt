@@ -3,6 +3,7 @@ use borrow.Author.Needs.{needs}
 use mathlib.Core.Path.{_≡_}
 use Prim.Native.Nat.{ℕ, _*_, _-_}
 use lib.ListN.{take, drop}
+use Rattle.format.specs.Format.{frameLen}
 use Rattle.encoder.specs.Encoder.{encoderView}
 use Rattle.oneshot.specs.OneShot.{chunk}
 use Rattle.oneshot.proofs.Files.{chunk-part}
@@ -12,7 +13,7 @@ use Rattle.oneshot.proofs.put_chunk.Tie as tie
 -- the part that is lent
 part-is : (c : tie.After-frame-end) →
     let args = c .before .before .before .args in
-    let start : ℕ = 5120 * args .e .channels * args .f in
+    let start : ℕ = frameLen * args .e .channels * args .f in
     take (c .frame-end .result - start) (drop start (args .samples .now)) ≡ chunk (args .e .channels) (args .samples .now) (args .f)
 part-is c = let args = c .before .before .before .args in chunk-part (args .e .channels) (args .samples .now) (args .f) (c .frame-end .result) (c .frame-end .ensures)
 

@@ -11,7 +11,7 @@ use Rattle.wrap.specs.Wrap.{low16}
 use Rattle.wrap.proofs.Integers.{returned}
 use Rattle.word.specs.Bytes.{bytesOf}
 use Rattle.word.proofs.BytesLaws.{length-bytes}
-use Rattle.format.specs.Format.{maxChannels}
+use Rattle.format.specs.Format.{maxChannels, pendingLen}
 use Rattle.body.specs.Laid.{laid}
 use Rattle.body.specs.Laid.{overlaid}
 use Rattle.body.proofs.Laids.{length-blocks, next-block}
@@ -25,10 +25,10 @@ abbrev stored : List ℤ → ℕ → ℕ → ℕ → List ℕ
 stored pending next end k = bytesOf 2 (low16 (sampleHeld pending next end k))
 
 abbrev Inv-loop : tie.InvT-loop
-Inv-loop block₀ pending next end i₀ block i = (i ≤ 20 * maxChannels) × (block ≡ overlaid block₀ (32 + 32 * maxChannels) (laid i (stored pending next end)))
+Inv-loop block₀ pending next end i₀ block i = (i ≤ pendingLen) × (block ≡ overlaid block₀ (32 + 32 * maxChannels) (laid i (stored pending next end)))
 
 abbrev μ-loop : tie.MeasureT-loop
-μ-loop block₀ pending next end i₀ block i = 20 * maxChannels - i
+μ-loop block₀ pending next end i₀ block i = pendingLen - i
 
 -- as long as it was
 long : (c : tie.At-loop Inv-loop μ-loop) → length (c .loop .block) ≡ length (c .before .before .args .block .now)
@@ -78,7 +78,7 @@ same-length c = long (c .before)
 returns : tie.Need-returns Inv-loop μ-loop
 returns c =
     let l = c .before .loop in
-    let done : l .i ≡ 20 * maxChannels = omega arith in
+    let done : l .i ≡ pendingLen = omega arith in
     rw done at (l .inv .1)
 
 pub write-pending-spec : {M : Type 1} → statement M

@@ -4,6 +4,7 @@ use mathlib.Core.Path.{ap}
 use mathlib.Core.List.{List}
 use native.Mathlib.Omega.{arith}
 use lib.ListN.{replicate, getD-replicate}
+use Rattle.format.specs.Format.{maxChannels}
 use Rattle.word.proofs.Tables.{table-ext}
 use Rattle.lms.specs.Predictor.{newLms}
 use Rattle.lms.specs.declared.QoaLms.{QoaLms}
@@ -21,7 +22,7 @@ returns c =
     let args = c .before .args in
     rw (c .new-lms .ensures)
     (ap {B = EncoderView} (λ (l : List QoaLms). record { channels = args .channels; rate = args .rate; total = args .total; lms = l })
-    (table-ext (args .channels) (lmsOf (replicate 8 newLms)) (λ j. newLms) (λ j h. getD-replicate 8 j newLms noLms (omega (arith, c .before .pre)))))
+    (table-ext (args .channels) (lmsOf (replicate maxChannels newLms)) (λ j. newLms) (λ j h. getD-replicate maxChannels j newLms noLms (omega (arith, c .before .pre)))))
 
 pub fresh-encoder-spec : {M : Type 1} → statement M
 fresh-encoder-spec = tie.close (tie.spec new-lms-requires returns)

@@ -5,10 +5,10 @@ use Prim.Native.Nat.{_+_, _*_, _/_, _≤_, _<_}
 use native.Mathlib.Omega.{arith}
 use lib.ListN.{length}
 use Rattle.word.proofs.BytesLaws.{length-put}
-use Rattle.format.specs.Format.{frameLength, maxChannels, mostRate, stateEnd}
+use Rattle.format.specs.Format.{frameLen, frameLength, maxChannels, mostRate, stateEnd}
 use Rattle.format.specs.Predictor.{lmsOf}
 use Rattle.encoder.specs.Encoder.{encoderView}
-use Rattle.encoder.proofs.Frames.{after-of, frame-of, frame-over, frame-small, frame-within}
+use Rattle.encoder.proofs.Frames.{after-of, frame-of, frame-most, frame-over, frame-small, frame-within}
 use Rattle.body.proofs.Laids.{length-states}
 use Rattle.body.proofs.Overlays.{length-over}
 use Rattle.encoder.proofs.frame.put_frame.Statement.{statement}
@@ -18,7 +18,7 @@ use Rattle.encoder.proofs.frame.put_frame.Tie as tie
 fits : (c : tie.Start) →
     let channels = c .args .e .channels in
     let n = length (c .args .samples .now) / channels in
-    (0 < channels) × (channels ≤ maxChannels) × (c .args .e .rate ≤ mostRate) × (n * channels ≡ length (c .args .samples .now)) × (n ≤ 5120) × (c .args .at + frameLength channels n ≤ length (c .args .out .now))
+    (0 < channels) × (channels ≤ maxChannels) × (c .args .e .rate ≤ mostRate) × (n * channels ≡ length (c .args .samples .now)) × (n ≤ frameLen) × (c .args .at + frameLength channels n ≤ length (c .args .out .now))
 unfolding encoderView
 fits c =
     let f = c .pre .0 in
@@ -51,7 +51,7 @@ frame-length-requires c κs = omega (arith, fits (c .before .before))
 cast-t12 : tie.Need-cast-t12
 cast-t12 c =
     let f = fits (c .before .before .before) in
-    omega (arith, c .frame-length .ensures, frame-small _ _ (f .1) (f .4))
+    omega (arith, c .frame-length .ensures, frame-small _ _ (f .1) (f .4), frame-most)
 
 header-word-requires : tie.Need-header-word-requires
 header-word-requires c κs = omega (arith, fits (c .before .before .before .before))

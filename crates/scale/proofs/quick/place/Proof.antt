@@ -9,8 +9,9 @@ use lib.Signed.{shrZ}
 use mir.Syntax.{w32}
 use mir.Val.{toZ}
 use mir.Facts.{toZ-ofZ}
-use Rattle.wrap.specs.Wrap.{low32}
+use Rattle.wrap.specs.Wrap.{low32, wrap32}
 use Rattle.wrap.proofs.Modulo.{add-low, modulo-pos}
+use Rattle.scale.specs.Division.{shifted}
 use Rattle.scale.specs.Parts.{quickPlace}
 use Rattle.scale.proofs.QuickRows.{place-of}
 use Rattle.scale.proofs.quick.place.Statement.{statement}
@@ -42,13 +43,16 @@ cast-result : tie.Need-cast-result
 cast-result c = search needs
 
 returns : tie.Need-returns
-returns c =
+unfolding shifted
+returns c k e =
     let added = c .before .before in
     let sum = added .wrapping-add-u32 .result in
+    let v = added .before .before .args .v in
     c .least .ensures
     ∙ ap (λ (x : ℕ). min (x / 2 ^ 16) (15 + sum / 2 ^ 31)) (c .before .wrapping-add-u322 .ensures)
     ∙ place-of sum (added .wrapping-add-u32 .ok)
     ∙ ap (λ (u : ℕ). quickPlace (shrZ (toZ w32 u) (2 ^ 16))) (sum-is added)
+    ∙ ap (λ (y : ℤ). quickPlace (shrZ (wrap32 (v *ℤ y +ℤ pos 32768)) (2 ^ 16))) e
 
 pub place-spec : {M : Type 1} → statement M
 place-spec =

@@ -2,14 +2,12 @@
 -- Assumes nothing.
 use borrow.Author.Needs.{needs}
 use mathlib.Core.Path.{_≡_, ap, ap₂, _∙_}
-use Prim.Native.Nat.{ℕ, _+_, _^_}
+use Prim.Native.Nat.{ℕ, _+_}
 use native.Mathlib.Omega.{arith}
-use lib.IntN.{ℤ, pos, _+ℤ_, _*ℤ_}
+use lib.IntN.{ℤ, pos}
 use lib.ListN.{getD}
-use lib.Signed.{shrZ}
 use mir.Syntax.{w32}
 use mir.Facts.{toZ-ofZ}
-use Rattle.wrap.specs.Wrap.{wrap32}
 use Rattle.wrap.proofs.Integers.{returned}
 use Rattle.scale.specs.Division.{shifted}
 use Rattle.scale.specs.Parts.{halfOf, quickPlace}
@@ -19,12 +17,11 @@ use Rattle.scale.proofs.quick.quick_code.Tie as tie
 
 -- the place, in the whole row
 there : (c : tie.After-place) → c .before .before .half .result + c .place .result ≡ halfOf (c .before .before .before .args .v) + quickPlace (shifted (c .before .before .before .args .v) (c .before .before .before .args .sf))
-unfolding shifted
 there c =
     let s = c .before .before .before in
     let v = toZ-ofZ (s .fits .v) in
     let r = returned w32 _ (c .before .place-arg .given) (ap (λ l. getD l (s .args .sf) (pos 0)) (s .pre .1) ∙ reciprocal-entry (s .args .sf) (s .pre .0)) in
-    ap₂ _+_ (c .before .before .half .ensures ∙ ap halfOf v) (c .place .ensures ∙ ap₂ (λ (x y : ℤ). quickPlace (shrZ (wrap32 (x *ℤ y +ℤ pos 32768)) (2 ^ 16))) v r)
+    ap₂ _+_ (c .before .before .half .ensures ∙ ap halfOf v) (c .place .ensures (s .args .sf) r ∙ ap (λ (x : ℤ). quickPlace (shifted x (s .args .sf))) v)
 
 half-requires : tie.Need-half-requires
 half-requires c κs = search needs

@@ -3,16 +3,14 @@
 use borrow.Author.Needs.{needs}
 use mathlib.Core.List.{List}
 use mathlib.Core.Path.{_≡_, ap, ap₂, _∙_}
-use Prim.Native.Nat.{ℕ, _+_, _-_, _^_, _≤_, _<_}
+use Prim.Native.Nat.{ℕ, _+_, _-_, _≤_, _<_}
 use native.Mathlib.Omega.{arith}
 use lib.Dec.{lit≤}
-use lib.IntN.{ℤ, pos, _+ℤ_, _*ℤ_}
+use lib.IntN.{ℤ, pos}
 use lib.ListN.{drop, getD, length, take}
-use lib.Signed.{shrZ}
 use mir.Syntax.{w16, w32}
 use mir.Val.{SFits}
 use mir.Facts.{toZ-ofZ}
-use Rattle.wrap.specs.Wrap.{wrap32}
 use Rattle.wrap.proofs.Integers.{fits-of, returned, widen-back, widen-fits}
 use Rattle.scale.specs.Division.{shifted}
 use Rattle.scale.specs.Parts.{halfOf, quickPlace}
@@ -27,11 +25,10 @@ half-small : (c : tie.After-half) → c .half .result ≤ 17
 half-small c = rw (half-is c) (half-le _)
 
 place-is : (c : tie.After-place) → c .place .result ≡ quickPlace (shifted (c .before .before .before .before .args .v) (c .before .before .before .before .args .sf))
-unfolding shifted
 place-is c =
     let s = c .before .before .before .before in
     let r = returned w32 _ (c .before .place-arg .given) (ap (λ l. getD l (s .args .sf) (pos 0)) (s .pre .1) ∙ reciprocal-entry (s .args .sf) (s .pre .0)) in
-    c .place .ensures ∙ ap₂ (λ (x y : ℤ). quickPlace (shrZ (wrap32 (x *ℤ y +ℤ pos 32768)) (2 ^ 16))) (toZ-ofZ (s .fits .v)) r
+    c .place .ensures (s .args .sf) r ∙ ap (λ (x : ℤ). quickPlace (shifted x (s .args .sf))) (toZ-ofZ (s .fits .v))
 
 place-small : (c : tie.After-place) → c .place .result < 17
 place-small c = rw (place-is c) (quick-place-lt _)

@@ -3,14 +3,14 @@ use borrow.Author.Needs.{needs}
 use native.Mathlib.Omega.{arith}
 use mathlib.Core.Path.{_≡_, refl, ap, _∙_}
 use lib.ListN.{length}
-use Rattle.format.specs.Format.{stateEnd}
+use Rattle.format.specs.Format.{maxChannels, stateEnd}
 use Rattle.state.specs.Opening.{zeroState}
 use Rattle.state.specs.declared.QoaDecoder.{QoaDecoder}
 use Rattle.state.proofs.Openings.{fixed-view}
 use Rattle.state.proofs.opening.fixed_state.Statement.{statement}
 use Rattle.state.proofs.opening.fixed_state.Tie as tie
 
-long : length (zeroState .lms) ≡ 8
+long : length (zeroState .lms) ≡ maxChannels
 unfolding zeroState
 long = refl
 
@@ -43,7 +43,7 @@ returns c =
     let states = c .before .before in
     let zero = states .before .before .before .before .zero-state in
     let s = states .before .before .before .before .before .before in
-    let eight : length (zero .result .lms) ≡ 8 = ap (λ (d : QoaDecoder). length (d .lms)) (zero .ensures) ∙ long in
+    let whole : length (zero .result .lms) ≡ maxChannels = ap (λ (d : QoaDecoder). length (d .lms)) (zero .ensures) ∙ long in
     rw (c .before .state-end .ensures, c .frame-facts .ensures, states .read-states .ensures)
     (fixed-view (s .args .bytes .now) (s .args .total) (s .args .h) (zero .result .lms) (zero .result .pending) (s .pre .0) (s .pre .1) (omega (arith, s .pre .2)))
 

@@ -2,6 +2,7 @@
 use borrow.Author.Needs.{needs}
 use native.Mathlib.Omega.{arith}
 use borrow.Author.Tests.{le-leb, lt-leb}
+use Rattle.format.specs.Format.{maxChannels}
 use Rattle.state.specs.States.{modeRule}
 use Rattle.state.proofs.rules.is_good_mode.Statement.{statement}
 use Rattle.state.proofs.rules.is_good_mode.Tie as tie
@@ -31,13 +32,13 @@ returns-3 : tie.Need-returns-3
 unfolding modeRule
 returns-3 c =
     let m = c .before .before .before .before .mode .given in
-    rw (m .1) (simp (le-leb 1 (m .0 .0) (omega arith), le-leb 1 (m .0 .1 .0) (omega arith), lt-leb (m .0 .1 .0) 8 (omega arith)))
+    rw (m .1) (simp (le-leb 1 (m .0 .0) (omega arith), le-leb 1 (m .0 .1 .0) (omega arith), lt-leb (m .0 .1 .0) maxChannels (omega arith)))
 
 returns-4 : tie.Need-returns-4
 unfolding modeRule
 returns-4 c =
     let m = c .before .before .before .before .before .mode .given in
-    rw (m .1) (simp (le-leb 1 (m .0 .0) (omega arith), le-leb 1 (m .0 .1 .0) (omega arith), le-leb (m .0 .1 .0) 8 (omega arith), lt-leb 1 (m .0 .1 .1 .0) (omega arith)))
+    rw (m .1) (simp (le-leb 1 (m .0 .0) (omega arith), le-leb 1 (m .0 .1 .0) (omega arith), le-leb (m .0 .1 .0) maxChannels (omega arith), lt-leb 1 (m .0 .1 .1 .0) (omega arith)))
 
 returns-5 : tie.Need-returns-5
 unfolding modeRule
@@ -47,7 +48,7 @@ returns-6 : tie.Need-returns-6
 unfolding modeRule
 returns-6 c =
     let m = c .before .before .before .before .before .mode .given in
-    rw (m .1) (simp (le-leb 1 (m .0 .0) (omega arith), le-leb 1 (m .0 .1 .0) (omega arith), le-leb (m .0 .1 .0) 8 (omega arith), le-leb 1 (m .0 .1 .1 .0) (omega arith)))
+    rw (m .1) (simp (le-leb 1 (m .0 .0) (omega arith), le-leb 1 (m .0 .1 .0) (omega arith), le-leb (m .0 .1 .0) maxChannels (omega arith), le-leb 1 (m .0 .1 .1 .0) (omega arith)))
 
 pub is-good-mode-spec : {M : Type 1} → statement M
 is-good-mode-spec =
