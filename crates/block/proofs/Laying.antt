@@ -6,7 +6,7 @@ use native.Mathlib.Omega.{arith}
 use lib.ListN.{length}
 use Rattle.word.specs.Bytes.{bytesOf, put}
 use Rattle.body.specs.Laid.{overlaid}
-use Rattle.body.proofs.Overlays.{length-over, over-put, over-then}
+use Rattle.refusal.proofs.Lents.{length-over, over-put, over-then}
 
 pub then-number : (out : List ℕ) (p : ℕ) (xs : List ℕ) (q : ℕ) → q ≡ p + length xs → (n w : ℕ) → q + n ≤ length out
     → put n (overlaid out p xs) q w ≡ overlaid out p (xs ++ bytesOf n w)

@@ -22,7 +22,7 @@ use Rattle.encoder.specs.Encoder as E
 use Rattle.body.specs.Laid.{laid}
 use Rattle.body.specs.Laid.{overlaid}
 use Rattle.body.proofs.Laids.{length-laid}
-use Rattle.body.proofs.Overlays.{over-put, over-then}
+use Rattle.refusal.proofs.Lents.{over-put, over-then}
 use Rattle.encoder.proofs.Heads.{over-start}
 use Rattle.block.specs.Predictors.{fourBytes, predictorBytes, predictorsBytes}
 use Rattle.block.specs.DecoderBlock.{decoderBytes, decoderSize, fixedBytes, factsBytes, modeBytes, pendingAt, pendingBytes, restBytes}

@@ -26,7 +26,7 @@ use Rattle.encoder.specs.declared.QoaEncoder.{QoaEncoder}
 use Rattle.body.proofs.Channels.{before-fits}
 use Rattle.encoder.proofs.GoodEncoders.{Good, facts-good, view-lms}
 use Rattle.body.proofs.Laids.{laid-ext, length-laid, length-states, length-words}
-use Rattle.body.proofs.Overlays.{over-put, over-then}
+use Rattle.refusal.proofs.Lents.{over-put, over-then}
 use Rattle.encoder.proofs.Wides.{short-within, wide-ext, wide-none}
 
 -- ---- lengths

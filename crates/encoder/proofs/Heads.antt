@@ -10,7 +10,7 @@ use Rattle.word.specs.Written.{table}
 use Rattle.word.proofs.BytesLaws.{length-bytes}
 use Rattle.format.specs.FileHeader.{magic}
 use Rattle.body.specs.Laid.{overlaid}
-use Rattle.body.proofs.Overlays.{over-put}
+use Rattle.refusal.proofs.Lents.{over-put}
 use Rattle.encoder.specs.Head.{headBytes}
 use Rattle.encoder.specs.Calls.{onto}
 use Rattle.format.specs.Parts.{fileWord}

@@ -22,7 +22,7 @@ use Rattle.encoder.specs.declared.QoaEncoder.{QoaEncoder}
 use Rattle.encoder.proofs.Frames.{after-good, length-frame, wide-view}
 use Rattle.encoder.proofs.GoodEncoders.{Good}
 use Rattle.encoder.proofs.Heads.{length-head, over-start}
-use Rattle.body.proofs.Overlays.{over-then}
+use Rattle.refusal.proofs.Lents.{over-then}
 
 -- ---- the samples of a frame
 

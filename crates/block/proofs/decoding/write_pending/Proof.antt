@@ -15,7 +15,7 @@ use Rattle.format.specs.Format.{maxChannels}
 use Rattle.body.specs.Laid.{laid}
 use Rattle.body.specs.Laid.{overlaid}
 use Rattle.body.proofs.Laids.{length-blocks, next-block}
-use Rattle.body.proofs.Overlays.{over-nil, over-put}
+use Rattle.refusal.proofs.Lents.{over-nil, over-put}
 use Rattle.block.proofs.Holding.{sampleHeld}
 use Rattle.block.proofs.decoding.write_pending.Statement.{statement}
 use Rattle.block.proofs.decoding.write_pending.Tie as tie

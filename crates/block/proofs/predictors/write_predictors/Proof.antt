@@ -12,7 +12,7 @@ use Rattle.format.specs.Predictor.{lmsOf}
 use Rattle.body.specs.Laid.{laid}
 use Rattle.body.specs.Laid.{overlaid}
 use Rattle.body.proofs.Laids.{length-blocks, next-block}
-use Rattle.body.proofs.Overlays.{over-nil}
+use Rattle.refusal.proofs.Lents.{over-nil}
 use Rattle.block.specs.Predictors.{predictorBytes, predictorsBytes}
 use Rattle.block.proofs.Holding.{held-bytes}
 use Rattle.block.proofs.Layouts.{length-predictor}
