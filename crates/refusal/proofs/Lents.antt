@@ -1,6 +1,6 @@
 -- The laws of what is laid over lent memory: stores in a row are laid over it, and lists laid one after the other are laid as one. Assumes nothing.
 use Prim.Native.Nat.{ℕ, _+_, _-_, _≤_}
-use mathlib.Core.Path.{_≡_, refl, ap, ap₂, sym, _∙_}
+use mathlib.Core.Path.{_≡_, ap, ap₂, sym, _∙_}
 use mathlib.Core.List.{List, [], _++_, append-assoc}
 use native.Mathlib.Omega.{arith}
 use lib.ListN.{length, take, drop, length-append, length-drop, take-append-drop}
@@ -10,19 +10,10 @@ use Rattle.word.specs.Written.{table, written}
 use Rattle.word.proofs.BytesLaws.{length-bytes, put-list}
 use Rattle.word.proofs.Tables.{length-table}
 use Rattle.word.proofs.Writes.{written-list}
-use Rattle.refusal.specs.Rules.{good, refused}
+use Rattle.refusal.specs.Rules.{good}
 use Rattle.refusal.specs.Lent.{laidOver}
 
 module _ {A : Type 0} (out : List A) where
-  pub over-refused : (p n : ℕ) → laidOver out p (refused n) ≡ out
-  unfolding laidOver
-  over-refused p n = refl
-
-  -- from the start
-  pub over-start : (xs : List A) → laidOver out 0 (good xs) ≡ xs ++ drop (length xs) out
-  unfolding laidOver
-  over-start xs = refl
-
   -- what is past the values, counted from the start
   pub over-at : (p : ℕ) (xs : List A) → laidOver out p (good xs) ≡ take p out ++ (xs ++ drop (p + length xs) out)
   unfolding laidOver
@@ -36,6 +27,11 @@ module _ {A : Type 0} (out : List A) where
   pub length-over : (p : ℕ) (xs : List A) → p + length xs ≤ length out → length (laidOver out p (good xs)) ≡ length out
   unfolding laidOver
   length-over p xs room = simp (length-append, length-drop, length-take-le p out (omega arith)) (omega arith)
+
+  -- the values themselves
+  pub over-front : (xs : List A) (n : ℕ) → length xs ≡ n → take n (laidOver out 0 (good xs)) ≡ xs
+  unfolding laidOver
+  over-front xs n long = take-at xs (drop (length xs) out) n long
 
   -- stores in a row
   pub over-written : (f : ℕ → A) (p n : ℕ) → p + n ≤ length out → written f out p 1 n ≡ laidOver out p (good (table n f))
