@@ -38,7 +38,7 @@ same-length : tie.Need-same-length
 same-length c = search needs
 
 returns : tie.Need-returns
-unfolding intoRules
+unfolding intoRules laidOver
 returns c =
     let args = c .before .before .before .before .before .before .before .args in
     let none = unread (args .state .now) (length (args .bytes .now)) _ (sym (c .before .before .before .read-decoder .ensures .readable) ∙ not-true _ (c .before .if1 .taken)) in
