@@ -17,17 +17,15 @@ use Rattle.state.specs.View.{View}
 use Rattle.state.specs.declared.FrameFacts.{FrameFacts}
 use Rattle.state.specs.declared.ProcessingMode.{ProcessingMode}
 use Rattle.state.specs.declared.ProcessingMode.the-variants.{FixedSamples, Streaming}
-use Rattle.encoder.specs.Calls.{onto}
+use Rattle.refusal.specs.Rules.{good}
+use Rattle.refusal.specs.Lent.{laidOver}
 use Rattle.encoder.specs.Encoder as E
 use Rattle.body.specs.Laid.{laid}
-use Rattle.body.specs.Laid.{overlaid}
 use Rattle.body.proofs.Laids.{length-laid}
-use Rattle.body.proofs.Overlays.{over-put, over-then}
-use Rattle.encoder.proofs.Heads.{over-start}
+use Rattle.refusal.proofs.Lents.{over-put, over-then, then-put}
 use Rattle.block.specs.Predictors.{fourBytes, predictorBytes, predictorsBytes}
 use Rattle.block.specs.DecoderBlock.{decoderBytes, decoderSize, fixedBytes, factsBytes, modeBytes, pendingAt, pendingBytes, restBytes}
 use Rattle.block.specs.EncoderBlock.{encoderBytes, encoderSize}
-use Rattle.block.proofs.Laying.{then-number}
 
 -- ---- predictors
 
@@ -40,22 +38,22 @@ unfolding predictorBytes
 length-predictor lms = omega (arith, length-append (fourBytes (lms .history)) (fourBytes (lms .weights)), length-four (lms .history), length-four (lms .weights))
 
 pub four-over : (out : List ℕ) (p : ℕ) (xs : List ℤ) → p + 16 ≤ length out
-    → put 4 (put 4 (put 4 (put 4 out p (low32 (at xs 0))) (p + 4) (low32 (at xs 1))) (p + 8) (low32 (at xs 2))) (p + 12) (low32 (at xs 3)) ≡ overlaid out p (fourBytes xs)
+    → put 4 (put 4 (put 4 (put 4 out p (low32 (at xs 0))) (p + 4) (low32 (at xs 1))) (p + 8) (low32 (at xs 2))) (p + 12) (low32 (at xs 3)) ≡ laidOver out p (good (fourBytes xs))
 unfolding fourBytes laid
 four-over out p xs room =
     let f : ℕ → List ℕ = λ i. bytesOf 4 (low32 (at xs i)) in
     let long : (n : ℕ) → length (laid n f) ≡ n * 4 = λ n. length-laid 4 n f (λ i. length-bytes 4 (low32 (at xs i))) in
     rw (
       over-put out p 4 (low32 (at xs 0)) (omega arith),
-      then-number out p (laid 1 f) (p + 4) (omega (arith, long 1)) 4 (low32 (at xs 1)) (omega arith),
-      then-number out p (laid 2 f) (p + 8) (omega (arith, long 2)) 4 (low32 (at xs 2)) (omega arith),
-      then-number out p (laid 3 f) (p + 12) (omega (arith, long 3)) 4 (low32 (at xs 3)) (omega arith),
+      then-put out p (laid 1 f) (p + 4) (omega (arith, long 1)) 4 (low32 (at xs 1)) (omega arith),
+      then-put out p (laid 2 f) (p + 8) (omega (arith, long 2)) 4 (low32 (at xs 2)) (omega arith),
+      then-put out p (laid 3 f) (p + 12) (omega (arith, long 3)) 4 (low32 (at xs 3)) (omega arith),
     )
 
 -- ---- the mode
 
 pub fixed-over : (out : List ℕ) (m total c rate : ℕ) → 10 ≤ length out
-    → put 4 (put 1 (put 4 (put 1 out 0 m) 1 total) 5 c) 6 rate ≡ overlaid out 0 (fixedBytes m total c rate)
+    → put 4 (put 1 (put 4 (put 1 out 0 m) 1 total) 5 c) 6 rate ≡ laidOver out 0 (good (fixedBytes m total c rate))
 fixed-over out m total c rate room =
     let a : List ℕ = bytesOf 1 m in
     let la : length a ≡ 1 = length-bytes 1 m in
@@ -65,11 +63,11 @@ fixed-over out m total c rate room =
     let ld : length d ≡ 6 = omega (arith, length-append b (bytesOf 1 c), length-bytes 1 c, lb) in
     rw (
       over-put out 0 1 m (omega arith),
-      then-number out 0 a 1 (omega arith) 4 total (omega arith),
-      then-number out 0 b 5 (omega arith) 1 c (omega arith),
-      then-number out 0 d 6 (omega arith) 4 rate (omega arith),
+      then-put out 0 a 1 (omega arith) 4 total (omega arith),
+      then-put out 0 b 5 (omega arith) 1 c (omega arith),
+      then-put out 0 d 6 (omega arith) 4 rate (omega arith),
     )
-    (ap (overlaid out 0) (simp append-assoc))
+    (ap (λ (l : List ℕ). laidOver out 0 (good l)) (simp append-assoc))
 
 pub length-fixed : (m total c rate : ℕ) → length (fixedBytes m total c rate) ≡ 10
 length-fixed m total c rate =
@@ -83,7 +81,7 @@ length-mode (FixedSamples total c rate) = length-fixed 1 total c rate
 -- ---- the frame
 
 pub frame-over : (out : List ℕ) (f : FrameFacts) → 25 ≤ length out
-    → put 2 (put 4 (put 1 out 18 (f .channels)) 19 (f .rate)) 23 (f .samples) ≡ overlaid out 18 (factsBytes f)
+    → put 2 (put 4 (put 1 out 18 (f .channels)) 19 (f .rate)) 23 (f .samples) ≡ laidOver out 18 (good (factsBytes f))
 unfolding factsBytes
 frame-over out f room =
     let a : List ℕ = bytesOf 1 (f .channels) in
@@ -92,10 +90,10 @@ frame-over out f room =
     let lb : length b ≡ 5 = omega (arith, length-append a (bytesOf 4 (f .rate)), length-bytes 4 (f .rate)) in
     rw (
       over-put out 18 1 (f .channels) (omega arith),
-      then-number out 18 a 19 (omega arith) 4 (f .rate) (omega arith),
-      then-number out 18 b 23 (omega arith) 2 (f .samples) (omega arith),
+      then-put out 18 a 19 (omega arith) 4 (f .rate) (omega arith),
+      then-put out 18 b 23 (omega arith) 2 (f .samples) (omega arith),
     )
-    (ap (overlaid out 18) (simp append-assoc))
+    (ap (λ (l : List ℕ). laidOver out 18 (good l)) (simp append-assoc))
 
 pub length-frame : (f : FrameFacts) → length (factsBytes f) ≡ 7
 unfolding factsBytes
@@ -105,7 +103,7 @@ length-frame f =
 -- ---- what remains of it
 
 pub rest-over : (out : List ℕ) (remaining next end : ℕ) (given : Bool) → 32 ≤ length out
-    → put 1 (put 2 (put 2 (put 2 out 25 remaining) 27 next) 29 end) 31 (cond given 1 0) ≡ overlaid out 25 (restBytes remaining next end given)
+    → put 1 (put 2 (put 2 (put 2 out 25 remaining) 27 next) 29 end) 31 (cond given 1 0) ≡ laidOver out 25 (good (restBytes remaining next end given))
 unfolding restBytes
 rest-over out remaining next end given room =
     let a : List ℕ = bytesOf 2 remaining in
@@ -116,11 +114,11 @@ rest-over out remaining next end given room =
     let ld : length d ≡ 6 = omega (arith, length-append b (bytesOf 2 end), length-bytes 2 end) in
     rw (
       over-put out 25 2 remaining (omega arith),
-      then-number out 25 a 27 (omega arith) 2 next (omega arith),
-      then-number out 25 b 29 (omega arith) 2 end (omega arith),
-      then-number out 25 d 31 (omega arith) 1 (cond given 1 0) (omega arith),
+      then-put out 25 a 27 (omega arith) 2 next (omega arith),
+      then-put out 25 b 29 (omega arith) 2 end (omega arith),
+      then-put out 25 d 31 (omega arith) 1 (cond given 1 0) (omega arith),
     )
-    (ap (overlaid out 25) (simp append-assoc))
+    (ap (λ (l : List ℕ). laidOver out 25 (good l)) (simp append-assoc))
 
 pub length-rest : (remaining next end : ℕ) (given : Bool) → length (restBytes remaining next end given) ≡ 7
 unfolding restBytes
@@ -140,8 +138,8 @@ length-pending v = length-laid 2 pendingLen (λ i. bytesOf 2 (low16 (pendingAt v
 -- ---- all of it
 
 pub decoder-over : (out : List ℕ) (v : View) → decoderSize ≤ length out
-    → overlaid (overlaid (overlaid (overlaid (put 8 (overlaid out 0 (modeBytes (v .mode))) 10 (v .at)) 18 (factsBytes (v .frame))) 25 (restBytes (v .remaining) (v .next) (v .end) (v .given))) 32 (predictorsBytes (v .lms))) (32 + 32 * maxChannels) (pendingBytes v)
-    ≡ onto out (decoderBytes v)
+    → laidOver (laidOver (laidOver (laidOver (put 8 (laidOver out 0 (good (modeBytes (v .mode)))) 10 (v .at)) 18 (good (factsBytes (v .frame)))) 25 (good (restBytes (v .remaining) (v .next) (v .end) (v .given)))) 32 (good (predictorsBytes (v .lms)))) (32 + 32 * maxChannels) (good (pendingBytes v))
+    ≡ laidOver out 0 (good (decoderBytes v))
 unfolding decoderBytes
 decoder-over out v room =
     let a : List ℕ = modeBytes (v .mode) in
@@ -156,20 +154,19 @@ decoder-over out v room =
     let ld : length d ≡ 32 = omega (arith, length-append c rest, length-rest (v .remaining) (v .next) (v .end) (v .given)) in
     let le : length e ≡ 32 + 32 * maxChannels = omega (arith, length-append d (predictorsBytes (v .lms)), length-predictors (v .lms)) in
     rw (
-      then-number out 0 a 10 (omega arith) 8 (v .at) (omega arith),
+      then-put out 0 a 10 (omega arith) 8 (v .at) (omega arith),
       over-then out 0 18 b (factsBytes (v .frame)) (omega arith) (omega arith),
       over-then out 0 25 c rest (omega arith) (omega arith),
       over-then out 0 32 d (predictorsBytes (v .lms)) (omega arith) (omega arith),
       over-then out 0 (32 + 32 * maxChannels) e (pendingBytes v) (omega arith) (omega arith),
-      over-start,
     )
-    (simp append-assoc)
+    (ap (λ (l : List ℕ). laidOver out 0 (good l)) (simp append-assoc))
 
 regroup : (a b c d : List ℕ) → ((a ++ b) ++ c) ++ d ≡ a ++ (b ++ (c ++ d))
 regroup a b c d = simp append-assoc
 
 pub encoder-over : (out : List ℕ) (v : E.EncoderView) → encoderSize ≤ length out
-    → overlaid (put 4 (put 4 (put 1 out 0 (v .channels)) 1 (v .rate)) 5 (v .total)) 9 (predictorsBytes (v .lms)) ≡ onto out (encoderBytes v)
+    → laidOver (put 4 (put 4 (put 1 out 0 (v .channels)) 1 (v .rate)) 5 (v .total)) 9 (good (predictorsBytes (v .lms))) ≡ laidOver out 0 (good (encoderBytes v))
 unfolding encoderBytes
 encoder-over out v room =
     let a : List ℕ = bytesOf 1 (v .channels) in
@@ -180,12 +177,11 @@ encoder-over out v room =
     let lc : length c ≡ 9 = omega (arith, length-append b (bytesOf 4 (v .total)), length-bytes 4 (v .total)) in
     rw (
       over-put out 0 1 (v .channels) (omega arith),
-      then-number out 0 a 1 (omega arith) 4 (v .rate) (omega arith),
-      then-number out 0 b 5 (omega arith) 4 (v .total) (omega arith),
+      then-put out 0 a 1 (omega arith) 4 (v .rate) (omega arith),
+      then-put out 0 b 5 (omega arith) 4 (v .total) (omega arith),
       over-then out 0 9 c (predictorsBytes (v .lms)) (omega arith) (omega arith),
-      over-start,
     )
-    (ap (onto out) (regroup a (bytesOf 4 (v .rate)) (bytesOf 4 (v .total)) (predictorsBytes (v .lms))))
+    (ap (λ (l : List ℕ). laidOver out 0 (good l)) (regroup a (bytesOf 4 (v .rate)) (bytesOf 4 (v .total)) (predictorsBytes (v .lms))))
 
 -- as long as a block is
 pub length-decoder : (v : View) → length (decoderBytes v) ≡ decoderSize

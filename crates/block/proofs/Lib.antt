@@ -1,5 +1,4 @@
 -- Laws that the proofs share.
-pub mod Laying
 pub mod Layouts
 pub mod Holding
 pub mod Readable

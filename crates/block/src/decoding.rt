@@ -9,9 +9,9 @@ ghost use Rattle.word.specs.Bytes.{bytesOf};
 ghost use Rattle.word.specs.Written.{table};
 ghost use Rattle.format.specs.Format.{maxChannels, pendingLen};
 ghost use Rattle.state.specs.View.{view};
-ghost use Rattle.encoder.specs.Calls.{onto};
+ghost use Rattle.refusal.specs.Rules.{good};
+ghost use Rattle.refusal.specs.Lent.{laidOver};
 ghost use Rattle.body.specs.Laid.{laid};
-ghost use Rattle.body.specs.Laid.{overlaid};
 ghost use Rattle.wrap.specs.Wrap.{low16};
 ghost use Rattle.block.specs.DecoderBlock.{decoderBytes, decoderSize, fixedBytes, factsBytes, frameIn, modeBytes, modeIn, restBytes, sampleIn};
 ghost use Rattle.block.specs.Parts.{DecoderRead, readableDecoder};
@@ -149,7 +149,7 @@ pub fn read_decoder(block: &[u8]) -> BlockDecoder
 // Stores a mode's four fields.
 fn write_fixed(block: &mut [u8], mode: u8, total: u32, channels: u8, rate: u32)
     requires { ⌜ 10 ≤ length (now block) ⌝ }
-    ensures { λ r. ⌜ now (block .exit) ≡ overlaid (now (block .entry)) 0 (fixedBytes mode total channels rate) ⌝ }
+    ensures { λ r. ⌜ now (block .exit) ≡ laidOver (now (block .entry)) 0 (good (fixedBytes mode total channels rate)) ⌝ }
 {
     word::write_be(block, 0, mode as u64, 1);
     word::write_u32(block, TOTAL_AT, total);
@@ -160,7 +160,7 @@ fn write_fixed(block: &mut [u8], mode: u8, total: u32, channels: u8, rate: u32)
 // Stores the mode; in streaming mode the fields of the fixed one are 0.
 fn write_mode(block: &mut [u8], mode: ProcessingMode)
     requires { ⌜ 10 ≤ length (now block) ⌝ }
-    ensures { λ r. ⌜ now (block .exit) ≡ overlaid (now (block .entry)) 0 (modeBytes mode) ⌝ }
+    ensures { λ r. ⌜ now (block .exit) ≡ laidOver (now (block .entry)) 0 (good (modeBytes mode)) ⌝ }
 {
     match mode {
         ProcessingMode::Streaming => write_fixed(block, 0, 0, 0, 0),
@@ -175,7 +175,7 @@ fn write_mode(block: &mut [u8], mode: ProcessingMode)
 // Stores the current frame.
 fn write_frame(block: &mut [u8], frame: FrameFacts)
     requires { ⌜ 25 ≤ length (now block) ⌝ }
-    ensures { λ r. ⌜ now (block .exit) ≡ overlaid (now (block .entry)) 18 (factsBytes frame) ⌝ }
+    ensures { λ r. ⌜ now (block .exit) ≡ laidOver (now (block .entry)) 18 (good (factsBytes frame)) ⌝ }
 {
     word::write_be(block, CHANNELS_AT, frame.channels as u64, 1);
     word::write_u32(block, RATE_AT, frame.rate);
@@ -192,7 +192,7 @@ fn flag(given: bool) -> u64
 // Stores what remains, the range of the pending samples, and whether the first header was given.
 fn write_rest(block: &mut [u8], remaining: u16, next: usize, end: usize, given: bool)
     requires { ⌜ 32 ≤ length (now block) ⌝ }
-    ensures { λ r. ⌜ now (block .exit) ≡ overlaid (now (block .entry)) 25 (restBytes remaining next end given) ⌝ }
+    ensures { λ r. ⌜ now (block .exit) ≡ laidOver (now (block .entry)) 25 (good (restBytes remaining next end given)) ⌝ }
 {
     word::write_u16(block, REMAINING_AT, remaining);
     word::write_be(block, NEXT_AT, next as u64, 2);
@@ -214,7 +214,7 @@ fn held_sample(pending: &[i16; PENDING], next: usize, end: usize, i: usize) -> i
 // Stores the pending samples, 0 outside of `next` to `end`.
 fn write_pending(block: &mut [u8], pending: &[i16; PENDING], next: usize, end: usize)
     requires { ⌜ decoderSize ≤ length (now block) ⌝ }
-    ensures { λ r. ⌜ now (block .exit) ≡ overlaid (now (block .entry)) (32 + 32 * maxChannels) (laid pendingLen (λ i. bytesOf 2 (low16 (cond (ltb i next) (pos 0) (cond (ltb i end) (getD (now (pending .entry)) i (pos 0)) (pos 0)))))) ⌝ }
+    ensures { λ r. ⌜ now (block .exit) ≡ laidOver (now (block .entry)) (32 + 32 * maxChannels) (good (laid pendingLen (λ i. bytesOf 2 (low16 (cond (ltb i next) (pos 0) (cond (ltb i end) (getD (now (pending .entry)) i (pos 0)) (pos 0))))))) ⌝ }
 {
     for i in 0..PENDING {
         let sample = held_sample(pending, next, end, i);
@@ -225,7 +225,7 @@ fn write_pending(block: &mut [u8], pending: &[i16; PENDING], next: usize, end: u
 // Stores a state at the start of lent memory.
 pub fn write_decoder(block: &mut [u8], d: QoaDecoder)
     requires { ⌜ decoderSize ≤ length (now block) ⌝ }
-    ensures { λ r. ⌜ now (block .exit) ≡ onto (now (block .entry)) (decoderBytes (view d)) ⌝ }
+    ensures { λ r. ⌜ now (block .exit) ≡ laidOver (now (block .entry)) 0 (good (decoderBytes (view d))) ⌝ }
 {
     let mode = d.mode;
     let frame = d.frame;

@@ -2,7 +2,8 @@
 ghost use mathlib.Core.Path.{_≡_};
 ghost use Prim.Native.Nat.{_≤_};
 ghost use lib.ListN.{length};
-ghost use Rattle.encoder.specs.Calls.{onto};
+ghost use Rattle.refusal.specs.Rules.{good};
+ghost use Rattle.refusal.specs.Lent.{laidOver};
 ghost use Rattle.encoder.specs.Encoder.{encoderView};
 ghost use Rattle.block.specs.EncoderBlock.{encoderBytes, encoderSize};
 ghost use Rattle.block.specs.Parts.{EncoderRead, readableEncoder};
@@ -73,7 +74,7 @@ pub fn read_encoder(block: &[u8]) -> BlockEncoder
 // Stores a state at the start of lent memory.
 pub fn write_encoder(block: &mut [u8], e: QoaEncoder)
     requires { ⌜ encoderSize ≤ length (now block) ⌝ }
-    ensures { λ r. ⌜ now (block .exit) ≡ onto (now (block .entry)) (encoderBytes (encoderView e)) ⌝ }
+    ensures { λ r. ⌜ now (block .exit) ≡ laidOver (now (block .entry)) 0 (good (encoderBytes (encoderView e))) ⌝ }
 {
     let states = e.lms;
     word::write_be(block, 0, e.channels as u64, 1);

@@ -10,7 +10,8 @@ ghost use Rattle.word.specs.Written.{table};
 ghost use Rattle.format.specs.Format.{maxChannels};
 ghost use Rattle.format.specs.Predictor.{lmsOf};
 ghost use Rattle.lms.specs.Predictor.{zeroLms};
-ghost use Rattle.body.specs.Laid.{overlaid};
+ghost use Rattle.refusal.specs.Rules.{good};
+ghost use Rattle.refusal.specs.Lent.{laidOver};
 ghost use Rattle.block.specs.Predictors.{fourBytes, fourIn, predictorBytes, predictorIn, predictorsBytes, predictorsIn};
 use format::frame::QOA_MAX_CHANNELS;
 use lms::QOA_LMS_LEN;
@@ -77,7 +78,7 @@ pub fn read_predictors(block: &[u8], at: usize, channels: usize) -> [QoaLms; QOA
 // Stores four numbers from a place on.
 fn write_four(block: &mut [u8], at: usize, xs: [i32; QOA_LMS_LEN])
     requires { ⌜ at + 16 ≤ length (now block) ⌝ }
-    ensures { λ r. ⌜ now (block .exit) ≡ overlaid (now (block .entry)) at (fourBytes xs) ⌝ }
+    ensures { λ r. ⌜ now (block .exit) ≡ laidOver (now (block .entry)) at (good (fourBytes xs)) ⌝ }
 {
     word::write_u32(block, at, wrap::pattern(xs[0]));
     word::write_u32(block, at + 4, wrap::pattern(xs[1]));
@@ -88,7 +89,7 @@ fn write_four(block: &mut [u8], at: usize, xs: [i32; QOA_LMS_LEN])
 // Stores one channel's predictor.
 fn write_predictor(block: &mut [u8], at: usize, lms: QoaLms)
     requires { ⌜ at + 32 ≤ length (now block) ⌝ }
-    ensures { λ r. ⌜ now (block .exit) ≡ overlaid (now (block .entry)) at (predictorBytes lms) ⌝ }
+    ensures { λ r. ⌜ now (block .exit) ≡ laidOver (now (block .entry)) at (good (predictorBytes lms)) ⌝ }
 {
     let history = lms.history;
     let weights = lms.weights;
@@ -111,7 +112,7 @@ pub fn write_predictors(
     channels: usize,
 )
     requires { ⌜ at + 32 * maxChannels ≤ length (now block) ⌝ }
-    ensures { λ r. ⌜ now (block .exit) ≡ overlaid (now (block .entry)) at (predictorsBytes (table channels (lmsOf states))) ⌝ }
+    ensures { λ r. ⌜ now (block .exit) ≡ laidOver (now (block .entry)) at (good (predictorsBytes (table channels (lmsOf states)))) ⌝ }
 {
     for j in 0..QOA_MAX_CHANNELS {
         let lms = states[j];

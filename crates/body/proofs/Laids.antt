@@ -12,8 +12,10 @@ use Rattle.word.proofs.BytesLaws.{length-bytes}
 use Rattle.word.proofs.Writes.{written-at}
 use Rattle.lms.specs.declared.QoaLms.{QoaLms}
 use Rattle.format.specs.Predictor.{fourWord}
-use Rattle.body.specs.Laid.{laid, lmsBytes, overlaid}
-use Rattle.body.proofs.Overlays.{length-over, over-put, over-then}
+use Rattle.refusal.specs.Rules.{good}
+use Rattle.refusal.specs.Lent.{laidOver}
+use Rattle.body.specs.Laid.{laid, lmsBytes}
+use Rattle.refusal.proofs.Lents.{length-over, over-put, over-then}
 use Rattle.format.specs.Parts.{putLms}
 
 -- blocks of one length
@@ -41,25 +43,25 @@ length-states n s = length-laid 16 n (λ j. lmsBytes (s j)) (λ j. length-lms (s
 -- ---- blocks of one length, laid over an output from a place on
 
 module _ (m : ℕ) (f : ℕ → List ℕ) (same : (i : ℕ) → length (f i) ≡ m) (out : List ℕ) (p : ℕ) where
-  pub length-blocks : (n : ℕ) → p + m * n ≤ length out → length (overlaid out p (laid n f)) ≡ length out
+  pub length-blocks : (n : ℕ) → p + m * n ≤ length out → length (laidOver out p (good (laid n f))) ≡ length out
   length-blocks n room = length-over out p (laid n f) (omega (arith, length-laid m n f same))
 
   -- one block more
-  pub next-block : (n q : ℕ) → q ≡ p + m * n → p + m * n ≤ length out → overlaid (overlaid out p (laid n f)) q (f n) ≡ overlaid out p (laid (suc n) f)
+  pub next-block : (n q : ℕ) → q ≡ p + m * n → p + m * n ≤ length out → laidOver (laidOver out p (good (laid n f))) q (good (f n)) ≡ laidOver out p (good (laid (suc n) f))
   unfolding laid
   next-block n q e room =
       let long = length-laid m n f same in
       over-then out p q (laid n f) (f n) (omega arith) (omega arith)
 
 -- a predictor, stored
-pub over-lms : (out : List ℕ) (p : ℕ) (lms : QoaLms) → p + 16 ≤ length out → putLms out p lms ≡ overlaid out p (lmsBytes lms)
+pub over-lms : (out : List ℕ) (p : ℕ) (lms : QoaLms) → p + 16 ≤ length out → putLms out p lms ≡ laidOver out p (good (lmsBytes lms))
 unfolding putLms
 over-lms out p lms room =
     let h = bytesOf 8 (fourWord (lms .history)) in
     let w = bytesOf 8 (fourWord (lms .weights)) in
     let long = length-bytes 8 (fourWord (lms .history)) in
     rw (over-put out p 8 (fourWord (lms .history)) (omega arith))
-    (over-put (overlaid out p h) (p + 8) 8 (fourWord (lms .weights)) (omega (arith, length-over out p h (omega arith)))
+    (over-put (laidOver out p (good h)) (p + 8) 8 (fourWord (lms .weights)) (omega (arith, length-over out p h (omega arith)))
     ∙ over-then out p (p + 8) h w (omega arith) (omega arith))
 
 -- what stands at a place that was stored to

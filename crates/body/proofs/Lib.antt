@@ -1,4 +1,3 @@
 -- Laws for the crates above.
-pub mod Overlays
 pub mod Laids
 pub mod Channels

@@ -1,7 +1,6 @@
--- Bytes laid one after another, and over an output. Assumes nothing.
-use Prim.Native.Nat.{ℕ, zero, suc, _+_}
+-- Bytes laid one after another. Assumes nothing.
+use Prim.Native.Nat.{ℕ, zero, suc}
 use mathlib.Core.List.{List, [], _++_}
-use lib.ListN.{length, take, drop}
 use Rattle.word.specs.Bytes.{bytesOf}
 use Rattle.lms.specs.declared.QoaLms.{QoaLms}
 use Rattle.format.specs.Predictor.{fourWord}
@@ -14,7 +13,3 @@ laid (suc n) f = laid n f ++ f n
 -- four history and four weight numbers
 abbrev pub lmsBytes : QoaLms → List ℕ
 lmsBytes lms = bytesOf 8 (fourWord (lms .history)) ++ bytesOf 8 (fourWord (lms .weights))
-
--- bytes laid over what was there, from a place on
-unfoldable pub overlaid : List ℕ → ℕ → List ℕ → List ℕ
-overlaid out p bytes = take p out ++ (bytes ++ drop (p + length bytes) out)

@@ -11,7 +11,9 @@ ghost use Rattle.format.specs.Format.{frameLen, maxChannels, sliceLen, slicesOf
 ghost use Rattle.format.specs.Predictor.{lmsOf};
 ghost use Rattle.search.specs.Search.{encodedSlice, strided};
 ghost use Rattle.body.specs.Channel.{lmsBefore, sliceWord};
-ghost use Rattle.body.specs.Laid.{laid, lmsBytes, overlaid};
+ghost use Rattle.refusal.specs.Rules.{good};
+ghost use Rattle.refusal.specs.Lent.{laidOver};
+ghost use Rattle.body.specs.Laid.{laid, lmsBytes};
 use format::frame::QOA_MAX_CHANNELS;
 use format::frame::QOA_SLICE_LEN;
 use format::frame::slices_of;
@@ -21,7 +23,7 @@ use predictors::write_lms;
 // Stores the predictors of the used channels from a place on.
 pub fn put_states(states: [QoaLms; QOA_MAX_CHANNELS], channels: usize, out: &mut [u8], at: usize)
     requires { ⌜ (channels ≤ maxChannels) × (at + 16 * channels ≤ length (now out)) ⌝ }
-    ensures { λ r. ⌜ now (out .exit) ≡ overlaid (now (out .entry)) at (laid channels (λ j. lmsBytes (lmsOf states j))) ⌝ }
+    ensures { λ r. ⌜ now (out .exit) ≡ laidOver (now (out .entry)) at (good (laid channels (λ j. lmsBytes (lmsOf states j)))) ⌝ }
 {
     for j in 0..channels {
         let lms = states[j];
@@ -50,7 +52,7 @@ fn put_group(
     requires room { ⌜ at + 8 * channels ≤ length (now out) ⌝ }
     requires weights { ⌜ ((j : ℕ) → j < channels → WeightsWithin (2 ^ 29) (lmsOf states j)) ⌝ }
     ensures states { λ r. ⌜ r ≡ written (λ j. encodedSlice (lmsOf states j) (strided count (now (samples .entry)) (start + j) channels) .lms) states 0 1 channels ⌝ }
-    ensures bytes { λ r. ⌜ now (out .exit) ≡ overlaid (now (out .entry)) at (laid channels (λ j. bytesOf 8 (encodedSlice (lmsOf states j) (strided count (now (samples .entry)) (start + j) channels) .word))) ⌝ }
+    ensures bytes { λ r. ⌜ now (out .exit) ≡ laidOver (now (out .entry)) at (good (laid channels (λ j. bytesOf 8 (encodedSlice (lmsOf states j) (strided count (now (samples .entry)) (start + j) channels) .word)))) ⌝ }
 {
     let mut next = states;
     for j in 0..channels {
@@ -98,7 +100,7 @@ pub fn put_groups(
     requires room { ⌜ at + 8 * (channels * slicesOf n) ≤ length (now out) ⌝ }
     requires weights { ⌜ ((j : ℕ) → j < channels → WeightsWithin 32768 (lmsOf states j)) ⌝ }
     ensures states { λ r. ⌜ ((j : ℕ) → j < channels → lmsOf r j ≡ lmsBefore (lmsOf states j) (strided n (now (samples .entry)) j channels) (slicesOf n)) ⌝ }
-    ensures bytes { λ r. ⌜ now (out .exit) ≡ overlaid (now (out .entry)) at (laid (slicesOf n) (λ g. laid channels (λ j. bytesOf 8 (sliceWord (lmsOf states j) (strided n (now (samples .entry)) j channels) g)))) ⌝ }
+    ensures bytes { λ r. ⌜ now (out .exit) ≡ laidOver (now (out .entry)) at (good (laid (slicesOf n) (λ g. laid channels (λ j. bytesOf 8 (sliceWord (lmsOf states j) (strided n (now (samples .entry)) j channels) g))))) ⌝ }
 {
     let tab = scale::dequant_tab();
     let coding = scale::quick_codes();

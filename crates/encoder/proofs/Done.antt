@@ -9,14 +9,15 @@ use native.Mathlib.Omega.{arith}
 use lib.Dec.{T}
 use lib.IntN.{ℤ}
 use lib.ListN.{length}
-use Rattle.refusal.specs.Rules.{good, refused, Rule, _gives_, firstOf}
+use Rattle.refusal.specs.Rules.{good, Rule, _gives_, firstOf}
 use Rattle.refusal.proofs.Rules.{quiet}
 use Rattle.word.proofs.Tests.{nnot, tests}
 use Rattle.format.specs.Format.{frameLength, maxChannels, mostRate}
 use Rattle.encoder.specs.Encoder.{EncoderView, encoderView, createRules, goodEncoder, newView, zeroEncoder}
 use Rattle.encoder.specs.Frame.{afterFrame, firstWide, frameBytes, encodeRules, perChannel}
 use Rattle.encoder.specs.Head.{headBytes, headRules}
-use Rattle.encoder.specs.Calls.{CreateDone, FrameDone, NewState, frameMemory, frameTold, headMemory, headTold, onto, refuses, refuses-14, toldEncode, wrote}
+use Rattle.refusal.specs.Lent.{laidOver}
+use Rattle.encoder.specs.Calls.{CreateDone, FrameDone, NewState, frameMemory, frameTold, headMemory, headTold, refuses, refuses-14, toldEncode, wrote}
 use Rattle.encoder.specs.Parts.{FrameFits}
 use Rattle.encoder.specs.declared.CreatedEncoder.{CreatedEncoder}
 use Rattle.encoder.specs.declared.EncodedBytes.{EncodedBytes}
@@ -84,9 +85,10 @@ module _ (v : EncoderView) (rules : List Rule) where
 
 module _ (v : EncoderView) (out : List ℕ) where
   pub head-refused : (n : ℕ) → firstOf (headRules v (length out)) ≡ some n → (refuses n ≡ headTold v (length out)) × (out ≡ headMemory v out)
+  unfolding laidOver
   head-refused n e = rw e (refl, refl)
 
-  pub head-done : (left : List ℕ) → firstOf (headRules v (length out)) ≡ none → left ≡ onto out (headBytes (v .total)) → (wrote 8 ≡ headTold v (length out)) × (left ≡ headMemory v out)
+  pub head-done : (left : List ℕ) → firstOf (headRules v (length out)) ≡ none → left ≡ laidOver out 0 (good (headBytes (v .total))) → (wrote 8 ≡ headTold v (length out)) × (left ≡ headMemory v out)
   head-done left e m = rw e (refl, m)
 
 -- ---- a frame
@@ -105,7 +107,7 @@ module _ (e : QoaEncoder) (samples : List ℤ) (out : List ℕ) (r : EncodedByte
   frame-wide j quiet wide t m s = record { told = rw (quiet, wide) t; memory = rw (quiet, wide) m; back = rw (quiet, wide) s }
 
   pub frame-done : firstOf rulesOf ≡ none → firstWide (encoderView e .channels) (encoderView e .lms) ≡ none → toldEncode (r .answer) ≡ wrote (frameLength (encoderView e .channels) (perChannel (encoderView e) samples))
-      → left ≡ onto out (frameBytes (encoderView e) samples) → encoderView (r .state) ≡ afterFrame (encoderView e) samples → FrameDone e samples out r left
+      → left ≡ laidOver out 0 (good (frameBytes (encoderView e) samples)) → encoderView (r .state) ≡ afterFrame (encoderView e) samples → FrameDone e samples out r left
   unfolding frameTold frameMemory
   frame-done quiet wide t m s = record { told = rw (quiet, wide) t; memory = rw (quiet, wide) m; back = rw (quiet, wide) s }
 

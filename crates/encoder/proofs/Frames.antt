@@ -20,14 +20,16 @@ use Rattle.search.specs.Search.{strided}
 use Rattle.search.proofs.Fitting.{strided-length}
 use Rattle.encoder.specs.Encoder.{EncoderView, encoderView, goodEncoder}
 use Rattle.body.specs.Channel.{lmsBefore, sliceWord}
-use Rattle.body.specs.Laid.{laid, lmsBytes, overlaid}
+use Rattle.refusal.specs.Rules.{good}
+use Rattle.refusal.specs.Lent.{laidOver}
+use Rattle.body.specs.Laid.{laid, lmsBytes}
 use Rattle.encoder.specs.Frame.{afterFrame, channelOf, firstWide, frameBytes, frameSums, groupBytes, headerFor, perChannel, stateBytes}
 use Rattle.encoder.specs.Parts.{FrameFits}
 use Rattle.encoder.specs.declared.QoaEncoder.{QoaEncoder}
 use Rattle.body.proofs.Channels.{before-fits}
 use Rattle.encoder.proofs.GoodEncoders.{Good, facts-good, view-lms}
 use Rattle.body.proofs.Laids.{laid-ext, length-laid, length-states, length-words}
-use Rattle.body.proofs.Overlays.{over-put, over-then}
+use Rattle.refusal.proofs.Lents.{over-put, over-then}
 use Rattle.encoder.proofs.Wides.{short-within, wide-ext, wide-none}
 
 -- ---- lengths
@@ -59,15 +61,15 @@ frame-most = lit< tt
 -- ---- what the code stores, one part behind the other
 
 pub frame-over : (out : List ℕ) (p w k : ℕ) (s g : List ℕ) → length s ≡ k → p + (8 + k) ≤ length out
-    → overlaid (overlaid (put 8 out p w) (p + 8) s) (p + (8 + k)) g ≡ overlaid out p (bytesOf 8 w ++ (s ++ g))
+    → laidOver (laidOver (put 8 out p w) (p + 8) (good s)) (p + (8 + k)) (good g) ≡ laidOver out p (good (bytesOf 8 w ++ (s ++ g)))
 frame-over out p w k s g long room =
     let head = bytesOf 8 w in
     let eight = length-bytes 8 w in
     let both = length-append head s in
-    ap (λ (o : List ℕ). overlaid (overlaid o (p + 8) s) (p + (8 + k)) g) (over-put out p 8 w (omega arith))
-    ∙ ap (λ (o : List ℕ). overlaid o (p + (8 + k)) g) (over-then out p (p + 8) head s (omega arith) (omega arith))
+    ap (λ (o : List ℕ). laidOver (laidOver o (p + 8) (good s)) (p + (8 + k)) (good g)) (over-put out p 8 w (omega arith))
+    ∙ ap (λ (o : List ℕ). laidOver o (p + (8 + k)) (good g)) (over-then out p (p + 8) head s (omega arith) (omega arith))
     ∙ over-then out p (p + (8 + k)) (head ++ s) g (omega arith) (omega arith)
-    ∙ ap (overlaid out p) (append-assoc head s g)
+    ∙ ap (λ (l : List ℕ). laidOver out p (good l)) (append-assoc head s g)
 
 module _ (e : QoaEncoder) (samples : List ℤ) where
   abbrev many : ℕ

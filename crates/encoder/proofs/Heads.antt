@@ -1,24 +1,18 @@
--- Laws of bytes at the start of an output, and of the file header's. Assumes nothing.
+-- Laws of the file header's bytes. Assumes nothing.
 use Prim.Native.Nat.{ℕ, _+_, _*_, _/_, _%_, _^_, _≤_, _<_}
 use mathlib.Core.Path.{_≡_, ap, _∙_}
 use mathlib.Core.List.{List, [], _∷_, _++_}
-use native.Mathlib.Nat.{zero-add}
 use native.Mathlib.Omega.{arith}
 use lib.ListN.{length, length-append}
 use Rattle.word.specs.Bytes.{byteOf, bytesOf, put}
 use Rattle.word.specs.Written.{table}
 use Rattle.word.proofs.BytesLaws.{length-bytes}
 use Rattle.format.specs.FileHeader.{magic}
-use Rattle.body.specs.Laid.{overlaid}
-use Rattle.body.proofs.Overlays.{over-put}
+use Rattle.refusal.specs.Rules.{good}
+use Rattle.refusal.specs.Lent.{laidOver}
+use Rattle.refusal.proofs.Lents.{over-put}
 use Rattle.encoder.specs.Head.{headBytes}
-use Rattle.encoder.specs.Calls.{onto}
 use Rattle.format.specs.Parts.{fileWord}
-
--- laid over it from the start
-pub over-start : (out xs : List ℕ) → overlaid out 0 xs ≡ onto out xs
-unfolding overlaid
-over-start out xs = rw zero-add
 
 -- the word's upper half is `qoaf`, and its lower half has the total's bytes
 module _ (total : ℕ) (h : total < 2 ^ 32) where
@@ -58,6 +52,6 @@ unfolding headBytes
 length-head total = omega (arith, length-append (bytesOf 4 magic) (bytesOf 4 total), length-bytes 4 magic, length-bytes 4 total)
 
 -- the word, stored at the start of the output
-pub head-put : (total : ℕ) (out : List ℕ) → total < 2 ^ 32 → 8 ≤ length out → put 8 out 0 (fileWord total) ≡ onto out (headBytes total)
+pub head-put : (total : ℕ) (out : List ℕ) → total < 2 ^ 32 → 8 ≤ length out → put 8 out 0 (fileWord total) ≡ laidOver out 0 (good (headBytes total))
 unfolding headBytes
-head-put total out small room = over-put out 0 8 (fileWord total) (omega arith) ∙ over-start out (bytesOf 8 (fileWord total)) ∙ ap (onto out) (word-bytes total small)
+head-put total out small room = over-put out 0 8 (fileWord total) (omega arith) ∙ ap (λ (l : List ℕ). laidOver out 0 (good l)) (word-bytes total small)

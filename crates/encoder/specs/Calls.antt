@@ -1,11 +1,12 @@
 -- What each encoding call answers, leaves in the lent output, and hands back. Assumes nothing.
 use Prim.Native.Nat.{ℕ}
 use mathlib.Core.Path.{_≡_}
-use mathlib.Core.List.{List, _++_}
+use mathlib.Core.List.{List}
 use mathlib.Core.Option.{Option, none, some}
 use lib.IntN.{ℤ}
-use lib.ListN.{length, drop}
+use lib.ListN.{length}
 use Rattle.refusal.specs.Rules.{good, after, firstOf}
+use Rattle.refusal.specs.Lent.{laidOver}
 use Rattle.format.specs.Format.{frameLength}
 use Rattle.refusal.specs.Refusals.{numberOf, toldChecked}
 use Rattle.encoder.specs.Encoder.{EncoderView, encoderView, createRules, newView, zeroEncoder}
@@ -33,10 +34,6 @@ abbrev pub ifSome : {A B : Type 0} → Option B → (B → A) → A → A
 ifSome none f a = a
 ifSome (some b) f a = f b
 
--- the bytes at the start of the output; what lies past them is as it was
-abbrev pub onto : List ℕ → List ℕ → List ℕ
-onto out bytes = bytes ++ drop (length bytes) out
-
 -- on a refusal the state that was given, whole; else one that means the next
 abbrev pub HandsBack : Told → QoaEncoder → EncoderView → QoaEncoder → Type 0
 HandsBack (wrote n) given next back = encoderView back ≡ next
@@ -60,7 +57,7 @@ abbrev pub headTold : EncoderView → ℕ → Told
 headTold v room = ifSome (firstOf (headRules v room)) refuses (wrote 8)
 
 abbrev pub headMemory : EncoderView → List ℕ → List ℕ
-headMemory v out = ifSome (firstOf (headRules v (length out))) (λ n. out) (onto out (headBytes (v .total)))
+headMemory v out = laidOver out 0 (after (headRules v (length out)) (good (headBytes (v .total))))
 
 -- ---- a frame
 
@@ -74,7 +71,7 @@ unfoldable pub frameMemory : EncoderView → List ℤ → List ℕ → List ℕ
 frameMemory v samples out =
     ifSome (firstOf (encodeRules v samples (length out))) (λ n. out)
     (ifSome (firstWide (v .channels) (v .lms)) (λ j. out)
-    (onto out (frameBytes v samples)))
+    (laidOver out 0 (good (frameBytes v samples))))
 
 pub record FrameDone (e : QoaEncoder) (samples : List ℤ) (out : List ℕ) (r : EncodedBytes) (left : List ℕ) : Type 0 where
   pub told : toldEncode (r .answer) ≡ frameTold (encoderView e) samples (length out)

@@ -3,12 +3,12 @@ ghost use mathlib.Core.Path.{_≡_};
 ghost use mathlib.Core.Option.{none};
 ghost use Prim.Native.Nat.{_+_, _≤_};
 ghost use lib.ListN.{length};
-ghost use Rattle.refusal.specs.Rules.{firstOf};
+ghost use Rattle.refusal.specs.Rules.{good, firstOf};
 ghost use Rattle.format.specs.Format.{frameLength};
 ghost use Rattle.refusal.specs.Refusals.{toldChecked};
 ghost use Rattle.encoder.specs.Encoder.{encoderView};
 ghost use Rattle.encoder.specs.Frame.{afterFrame, frameBytes, encodeRules, perChannel};
-ghost use Rattle.body.specs.Laid.{overlaid};
+ghost use Rattle.refusal.specs.Lent.{laidOver};
 ghost use Rattle.encoder.specs.Parts.{FrameFits};
 ghost use Rattle.encoder.specs.Calls.{FrameDone};
 use crate::EncodeAnswer;
@@ -57,7 +57,7 @@ pub fn put_frame(e: QoaEncoder, samples: &[i16], out: &mut [u8], at: usize) -> Q
     requires { ⌜ FrameFits (encoderView e) (now samples) ⌝ }
     requires { ⌜ at + frameLength (e .channels) (perChannel (encoderView e) (now samples)) ≤ length (now out) ⌝ }
     ensures state { λ r. ⌜ encoderView r ≡ afterFrame (encoderView e) (now (samples .entry)) ⌝ }
-    ensures bytes { λ r. ⌜ now (out .exit) ≡ overlaid (now (out .entry)) at (frameBytes (encoderView e) (now (samples .entry))) ⌝ }
+    ensures bytes { λ r. ⌜ now (out .exit) ≡ laidOver (now (out .entry)) at (good (frameBytes (encoderView e) (now (samples .entry)))) ⌝ }
 {
     let channels = e.channels as usize;
     let n = samples.len() / channels;

@@ -4,7 +4,9 @@ ghost use Prim.Native.Nat.{_≤_};
 ghost use lib.ListN.{length};
 ghost use Rattle.encoder.specs.Encoder.{encoderView};
 ghost use Rattle.encoder.specs.Head.{headBytes};
-ghost use Rattle.encoder.specs.Calls.{headMemory, headTold, onto, toldEncode};
+ghost use Rattle.refusal.specs.Rules.{good};
+ghost use Rattle.refusal.specs.Lent.{laidOver};
+ghost use Rattle.encoder.specs.Calls.{headMemory, headTold, toldEncode};
 use crate::EncodeAnswer;
 use crate::QoaEncoder;
 use crate::rules::is_good_encoder;
@@ -15,7 +17,7 @@ use refusal::Refusal;
 // Stores `qoaf` and the total at the start of the output.
 pub fn put_head(total: u32, out: &mut [u8])
     requires { ⌜ 8 ≤ length (now out) ⌝ }
-    ensures { λ r. ⌜ now (out .exit) ≡ onto (now (out .entry)) (headBytes total) ⌝ }
+    ensures { λ r. ⌜ now (out .exit) ≡ laidOver (now (out .entry)) 0 (good (headBytes total)) ⌝ }
 {
     word::write_u64(out, 0, file_word(total));
 }

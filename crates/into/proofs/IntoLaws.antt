@@ -9,7 +9,9 @@ use lib.IntN.{ℤ, pos}
 use lib.ListN.{getD, length}
 use Rattle.refusal.specs.Rules.{Rule, firstOf}
 use Rattle.word.specs.Written.{written}
+use Rattle.refusal.specs.Lent.{laidOver}
 use Rattle.refusal.proofs.Rules.{fires, none-fires}
+use Rattle.refusal.proofs.Lents.{over-written}
 use Rattle.word.proofs.Writes.{written-ext}
 use Rattle.word.proofs.Tests.{tests}
 use Rattle.refusal.specs.declared.Refusal.the-variants.{BadState, Truncated}
@@ -42,12 +44,13 @@ module _ (bs : List ℕ) (d : QoaDecoder) (out : List ℤ) where
 
   -- 8
   pub into-bad : (r : DecodedInto) → goodState (view d) (length bs) ≡ false → r .answer ≡ Refused BadState → r .state ≡ d → IntoDone bs d out r out
+  unfolding laidOver
   into-bad r e answer state = let f = first-bad e in record { told = rw (f, answer); left = rw f state; stored = rw f }
 
   into-good : (r : DecodedInto) (out' : List ℤ) → goodState (view d) (length bs) ≡ true → groupsEnd (view d) (intoGroups (view d) (length out)) ≤ length bs
       → r .answer ≡ Count (intoCount (view d) (length out)) → view (r .state) ≡ intoAfter bs (view d) (length out)
       → out' ≡ written (comingAt bs (view d)) out 0 1 (intoCount (view d) (length out)) → IntoDone bs d out r out'
-  into-good r out' e whole answer state stored = let f = first-none e whole in record { told = rw (f, answer); left = rw f state; stored = rw f stored }
+  into-good r out' e whole answer state stored = let f = first-none e whole in record { told = rw (f, answer); left = rw f state; stored = rw f (stored ∙ over-written out (comingAt bs (view d)) 0 (intoCount (view d) (length out)) (omega arith)) }
 
   -- a call that the pending samples satisfy
   pub into-pending : (count : ℕ) (state : QoaDecoder) (out' : List ℤ) → goodState (view d) (length bs) ≡ true → count ≡ intoCount (view d) (length out) → count ≤ waiting (view d)
@@ -69,7 +72,7 @@ module _ (bs : List ℕ) (d : QoaDecoder) (out : List ℤ) where
     needed = groups-is ∙ ap (groupsFor (d .frame .channels)) (more-is ∙ rw count-is)
 
     pub into-cut : (r : DecodedInto) → length bs < d .at + 8 * (groups * d .frame .channels) → r .answer ≡ Refused Truncated → r .state ≡ d → IntoDone bs d out r out
-    unfolding view
+    unfolding view laidOver
     into-cut r cut answer state = let f = first-cut e (rw (← needed) cut) in record { told = rw (f, answer); left = rw f state; stored = rw f }
 
     pub into-more : (state : QoaDecoder) (out' : List ℤ) → waiting (view d) ≤ count → d .at + 8 * (groups * d .frame .channels) ≤ length bs

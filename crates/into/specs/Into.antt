@@ -3,13 +3,13 @@ use Prim.Native.Nat.{ℕ, _+_, _-_, _*_, _/_, min}
 use mathlib.Core.Path.{_≡_}
 use mathlib.Core.Bool.{not, cond}
 use mathlib.Core.List.{List, [], _∷_}
-use mathlib.Core.Option.{Option, none, some}
 use lib.Dec.{eqb, ltb}
 use lib.IntN.{ℤ, pos}
 use lib.ListN.{getD, length}
 use Rattle.format.specs.Format.{sliceLen}
 use Rattle.refusal.specs.Rules.{good, Rule, _gives_, after, firstOf}
-use Rattle.word.specs.Written.{table, written}
+use Rattle.refusal.specs.Lent.{laidOver}
+use Rattle.word.specs.Written.{table}
 use Rattle.lms.specs.declared.QoaLms.{QoaLms}
 use Rattle.refusal.specs.Refusals.{toldCount}
 use Rattle.format.specs.Predictor.{lmsOf}
@@ -98,13 +98,8 @@ intoRules bs v room =
 abbrev pub intoAfter : List ℕ → View → ℕ → View
 intoAfter bs v room = takenFrom bs v (intoGroups v room) (intoCount v room)
 
--- lent memory: as it was on a refusal
-abbrev pub storedUnless : Option ℕ → List ℤ → List ℤ → List ℤ
-storedUnless none stored out = stored
-storedUnless (some n) stored out = out
-
 -- what the call promises, of the bytes, the state and the lent memory: its answer, its state, and that memory afterwards
 pub record IntoDone (bs : List ℕ) (d : QoaDecoder) (out : List ℤ) (r : DecodedInto) (out' : List ℤ) : Type 0 where
   pub told : toldCount (r .answer) ≡ after (intoRules bs (view d) (length out)) (good (intoCount (view d) (length out)))
   pub left : Leaves (firstOf (intoRules bs (view d) (length out))) d (intoAfter bs (view d) (length out)) (r .state)
-  pub stored : out' ≡ storedUnless (firstOf (intoRules bs (view d) (length out))) (written (comingAt bs (view d)) out 0 1 (intoCount (view d) (length out))) out
+  pub stored : out' ≡ laidOver out 0 (after (intoRules bs (view d) (length out)) (good (table (intoCount (view d) (length out)) (comingAt bs (view d)))))

@@ -1,7 +1,7 @@
 -- What the decoder's calls do with a block's state is what they do with the block. Assumes nothing.
 use Prim.Native.Nat.{ℕ, _*_, _≤_, _<_, min}
-use mathlib.Core.Path.{_≡_, refl, sym, ap, _∙_}
-use mathlib.Core.Bool.{Bool, true, false, not, cond, _&&_}
+use mathlib.Core.Path.{_≡_, refl, sym, _∙_}
+use mathlib.Core.Bool.{Bool, true, false, not, _&&_}
 use mathlib.Core.List.{List, [], _∷_}
 use mathlib.Core.Option.{Option, none, some}
 use borrow.Author.Tests.{leb-false}
@@ -9,9 +9,9 @@ use native.Mathlib.Omega.{arith}
 use lib.Dec.{leb, ltb}
 use lib.IntN.{ℤ, pos}
 use lib.ListN.{length, set}
-use Rattle.refusal.specs.Rules.{Answer, Rule, after, firstOf, good, refused, _gives_}
+use Rattle.refusal.specs.Rules.{Rule, after, firstOf, good, refused, _gives_}
 use Rattle.word.specs.Bytes.{be16}
-use Rattle.refusal.proofs.Rules.{after-good, after-refused, fires, fires-left, fires-right, good-same, none-fires, unless-good}
+use Rattle.refusal.proofs.Rules.{after-refused, fires, fires-left, fires-right, good-same, none-fires, unless-good}
 use Rattle.word.proofs.Tests.{tests}
 use Rattle.format.specs.Format.{maxChannels, pendingLen}
 use Rattle.format.specs.declared.facts.Facts.{Facts}
@@ -23,11 +23,11 @@ use Rattle.state.specs.declared.QoaDecoder.{QoaDecoder}
 use Rattle.word.proofs.Belows.{and-left, fails}
 use Rattle.state.proofs.GoodStates.{good-facts}
 use Rattle.into.specs.Left.{Leaves}
-use Rattle.encoder.specs.Calls.{onto}
+use Rattle.refusal.specs.Lent.{laidOver}
 use Rattle.block.specs.DecoderBlock.{byteIn, decoderBytes, decoderIn, decoderSize, frameIn, isDecoder}
 use Rattle.block.specs.Parts.{readableDecoder}
 use Rattle.codes.specs.Codes.{coded}
-use Rattle.linked_decoder.specs.Linked.{DecodeLinked, FactsLinked, OpenLinked, decoderLeft, blocked, factsOn, factsRules, openingRules, threeFacts}
+use Rattle.linked_decoder.specs.Linked.{DecodeLinked, FactsLinked, OpenLinked, blocked, factsOn, factsRules, openingRules, threeFacts}
 
 -- ---- a block that can't be read
 
@@ -82,18 +82,20 @@ count-small rules room most n e = let same = accepted rules (min room most) n e 
 
 module _ (block : List ℕ) (rules : List Rule) (number : ℕ) (next : View) where
   pub linked-refused : (n : ℕ) (r : ℤ) → firstOf (blocked block rules) ≡ some n → r ≡ coded (refused n) → DecodeLinked block rules number next r block
+  unfolding laidOver
   linked-refused n r e code = record { answer = code ∙ rw e; state = rw e }
 
-  pub linked-done : (r : ℤ) (block' : List ℕ) → firstOf (blocked block rules) ≡ none → r ≡ pos number → block' ≡ onto block (decoderBytes next) → DecodeLinked block rules number next r block'
+  pub linked-done : (r : ℤ) (block' : List ℕ) → firstOf (blocked block rules) ≡ none → r ≡ pos number → block' ≡ laidOver block 0 (good (decoderBytes next)) → DecodeLinked block rules number next r block'
   linked-done r block' e code kept = record { answer = code ∙ rw e; state = kept ∙ rw e }
 
 -- ---- opening
 
 module _ (bs block : List ℕ) where
   pub open-refused : (n : ℕ) (r : ℤ) → firstOf (openingRules bs (length block)) ≡ some n → r ≡ coded (refused n) → OpenLinked bs block r block
+  unfolding laidOver
   open-refused n r e code = record { answer = code ∙ rw e; state = rw e }
 
-  pub open-done : (r : ℤ) (block' : List ℕ) → firstOf (openingRules bs (length block)) ≡ none → r ≡ pos 0 → block' ≡ onto block (decoderBytes (openedAt bs)) → OpenLinked bs block r block'
+  pub open-done : (r : ℤ) (block' : List ℕ) → firstOf (openingRules bs (length block)) ≡ none → r ≡ pos 0 → block' ≡ laidOver block 0 (good (decoderBytes (openedAt bs))) → OpenLinked bs block r block'
   open-done r block' e code kept = record { answer = code ∙ rw e; state = kept ∙ rw e }
 
   pub open-bad : (n : ℕ) → firstOf (openRules bs) ≡ some n → firstOf (openingRules bs (length block)) ≡ some n
@@ -112,10 +114,11 @@ module _ (bs block : List ℕ) where
 
 module _ (block : List ℕ) (bytes : ℕ) (facts : List ℕ) where
   pub facts-refused : (n : ℕ) (r : ℤ) → firstOf (factsRules block bytes (length facts)) ≡ some n → r ≡ coded (refused n) → FactsLinked block bytes facts r facts
+  unfolding laidOver
   facts-refused n r e code = record { answer = code ∙ rw e; told = rw e }
 
   pub facts-done : (r : ℤ) (facts' : List ℕ) → firstOf (factsRules block bytes (length facts)) ≡ none → r ≡ pos 0
-      → facts' ≡ onto facts (threeFacts (factsFor (decoderIn block .mode) (decoderIn block .frame))) → FactsLinked block bytes facts r facts'
+      → facts' ≡ laidOver facts 0 (good (threeFacts (factsFor (decoderIn block .mode) (decoderIn block .frame)))) → FactsLinked block bytes facts r facts'
   facts-done r facts' e code kept = record { answer = code ∙ rw e; told = kept ∙ rw e }
 
   -- the two rules of a state, and the room's behind them
@@ -137,7 +140,8 @@ module _ (block : List ℕ) (bytes : ℕ) (facts : List ℕ) where
       (fires-right two ((ltb (length facts) 3 gives 7) ∷ []) (found .0) ∙ none-fires ((ltb (length facts) 3 gives 7) ∷ []) (omega (arith, tests)), found .1)
 
 -- three numbers stored at the start
-pub three-put : (l : List ℕ) (a b c : ℕ) → 3 ≤ length l → set (set (set l 0 a) 1 b) 2 c ≡ onto l (a ∷ b ∷ c ∷ [])
+pub three-put : (l : List ℕ) (a b c : ℕ) → 3 ≤ length l → set (set (set l 0 a) 1 b) 2 c ≡ laidOver l 0 (good (a ∷ b ∷ c ∷ []))
+unfolding laidOver
 three-put [] a b c h = absurd (omega arith)
 three-put (x ∷ []) a b c h = absurd (omega arith)
 three-put (x ∷ y ∷ []) a b c h = absurd (omega arith)

@@ -3,21 +3,20 @@ use Prim.Native.Nat.{ℕ}
 use mathlib.Core.Path.{_≡_}
 use mathlib.Core.Bool.{not}
 use mathlib.Core.List.{List, [], _∷_, _++_}
-use mathlib.Core.Option.{Option, none, some}
 use lib.Dec.{ltb}
 use lib.IntN.{ℤ}
 use lib.ListN.{length}
-use Rattle.refusal.specs.Rules.{Answer, Rule, after, firstOf, good, _gives_}
-use Rattle.word.specs.Written.{written}
+use Rattle.refusal.specs.Rules.{Answer, Rule, after, good, _gives_}
+use Rattle.word.specs.Written.{table}
 use Rattle.format.specs.declared.facts.Facts.{Facts}
 use Rattle.state.specs.Facts.{factsFor}
 use Rattle.state.specs.Opening.{openRules, openedAt}
 use Rattle.state.specs.States.{goodState}
 use Rattle.state.specs.View.{View}
 use Rattle.frames.specs.Frames.{nextAfter, nextFound, nextRules}
-use Rattle.into.specs.Into.{comingAt, intoAfter, intoCount, intoRules, storedUnless}
+use Rattle.into.specs.Into.{comingAt, intoAfter, intoCount, intoRules}
 use Rattle.decoder.specs.Items.{itemAfter, itemOf, itemRules}
-use Rattle.encoder.specs.Calls.{ifSome, onto}
+use Rattle.refusal.specs.Lent.{laidOver}
 use Rattle.block.specs.DecoderBlock.{decoderBytes, decoderIn, decoderSize, isDecoder}
 use Rattle.codes.specs.Codes.{coded}
 use Rattle.linked_decoder.specs.Numbers.{foundCode, itemCode}
@@ -26,21 +25,20 @@ use Rattle.linked_decoder.specs.Numbers.{foundCode, itemCode}
 abbrev pub blocked : List ℕ → List Rule → List Rule
 blocked block rules = (not (isDecoder block) gives 8) ∷ rules
 
--- the block after a call: as it was on a refusal, else the next state's at its start
-abbrev pub decoderLeft : Option ℕ → View → List ℕ → List ℕ
-decoderLeft none next block = onto block (decoderBytes next)
-decoderLeft (some n) next block = block
+-- the block after a call with such rules: as it was on a refusal, else the next state's at its start
+abbrev pub decoderLeft : List Rule → View → List ℕ → List ℕ
+decoderLeft rules next block = laidOver block 0 (after rules (good (decoderBytes next)))
 
 -- a call with such rules, which answers with a number and after which the state goes on
 pub record DecodeLinked (block : List ℕ) (rules : List Rule) (number : ℕ) (next : View) (r : ℤ) (block' : List ℕ) : Type 0 where
   pub answer : r ≡ coded (after (blocked block rules) (good number))
-  pub state : block' ≡ decoderLeft (firstOf (blocked block rules)) next block
+  pub state : block' ≡ decoderLeft (blocked block rules) next block
 
 -- ---- samples into lent memory, the next frame, the next item
 
 pub record IntoLinked (bs block : List ℕ) (out : List ℤ) (r : ℤ) (block' : List ℕ) (out' : List ℤ) : Type 0 where
   pub call : DecodeLinked block (intoRules bs (decoderIn block) (length out)) (intoCount (decoderIn block) (length out)) (intoAfter bs (decoderIn block) (length out)) r block'
-  pub samples : out' ≡ storedUnless (firstOf (blocked block (intoRules bs (decoderIn block) (length out)))) (written (comingAt bs (decoderIn block)) out 0 1 (intoCount (decoderIn block) (length out))) out
+  pub samples : out' ≡ laidOver out 0 (after (blocked block (intoRules bs (decoderIn block) (length out))) (good (table (intoCount (decoderIn block) (length out)) (comingAt bs (decoderIn block)))))
 
 abbrev pub NextLinked : List ℕ → List ℕ → ℤ → List ℕ → Type 0
 NextLinked bs block r block' = DecodeLinked block (nextRules bs (decoderIn block)) (foundCode (nextFound bs (decoderIn block))) (nextAfter bs (decoderIn block)) r block'
@@ -55,7 +53,7 @@ openingRules bs room = openRules bs ++ ((ltb room decoderSize gives 7) ∷ [])
 
 pub record OpenLinked (bs block : List ℕ) (r : ℤ) (block' : List ℕ) : Type 0 where
   pub answer : r ≡ coded (after (openingRules bs (length block)) (good 0))
-  pub state : block' ≡ decoderLeft (firstOf (openingRules bs (length block))) (openedAt bs) block
+  pub state : block' ≡ decoderLeft (openingRules bs (length block)) (openedAt bs) block
 
 -- ---- facts: 8; 7 where there is no room for three numbers
 
@@ -70,4 +68,4 @@ threeFacts f = f .total ∷ f .channels ∷ f .rate ∷ []
 
 pub record FactsLinked (block : List ℕ) (bytes : ℕ) (facts : List ℕ) (r : ℤ) (facts' : List ℕ) : Type 0 where
   pub answer : r ≡ coded (after (factsRules block bytes (length facts)) (good 0))
-  pub told : facts' ≡ ifSome (firstOf (factsRules block bytes (length facts))) (λ n. facts) (onto facts (threeFacts (factsFor (decoderIn block .mode) (decoderIn block .frame))))
+  pub told : facts' ≡ laidOver facts 0 (after (factsRules block bytes (length facts)) (good (threeFacts (factsFor (decoderIn block .mode) (decoderIn block .frame)))))

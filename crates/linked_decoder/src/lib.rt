@@ -5,7 +5,7 @@ ghost use lib.IntN.{pos};
 ghost use lib.ListN.{length};
 ghost use Rattle.refusal.specs.Rules.{good, _then_};
 ghost use Rattle.state.specs.Facts.{toldFacts};
-ghost use Rattle.encoder.specs.Calls.{onto};
+ghost use Rattle.refusal.specs.Lent.{laidOver};
 ghost use Rattle.block.specs.DecoderBlock.{decoderSize};
 ghost use Rattle.codes.specs.Codes.{codedSeconds};
 ghost use Rattle.linked_decoder.specs.Linked.{FactsLinked, NextLinked, IntoLinked, ItemLinked, OpenLinked, factsOn, threeFacts};
@@ -152,7 +152,7 @@ fn facts_in(bytes: &[u8], state: &[u8]) -> FactsAnswer
 // Stores the three numbers at the start of lent memory.
 fn put_facts(facts: &mut [u32], known: Facts)
     requires { ⌜ 3 ≤ length (now facts) ⌝ }
-    ensures { λ r. ⌜ now (facts .exit) ≡ onto (now (facts .entry)) (threeFacts known) ⌝ }
+    ensures { λ r. ⌜ now (facts .exit) ≡ laidOver (now (facts .entry)) 0 (good (threeFacts known)) ⌝ }
 {
     facts[0] = known.total;
     facts[1] = known.channels as u32;

@@ -1,7 +1,7 @@
 -- What the encoder's calls do with a block's state is what they do with the block. Assumes nothing.
 use Prim.Native.Nat.{ℕ, _<_, _≤_}
 use mathlib.Core.Path.{_≡_, refl, sym, ap, _∙_}
-use mathlib.Core.Bool.{Bool, true, false, cond, _&&_}
+use mathlib.Core.Bool.{Bool, true, false, cond}
 use mathlib.Core.List.{List, [], _∷_}
 use mathlib.Core.Option.{none, some}
 use borrow.Author.Tests.{leb-false}
@@ -9,12 +9,13 @@ use native.Mathlib.Omega.{arith}
 use lib.Dec.{leb, ltb}
 use lib.IntN.{ℤ, pos}
 use lib.ListN.{length}
-use Rattle.refusal.specs.Rules.{firstOf, refused, _gives_}
+use Rattle.refusal.specs.Rules.{good, firstOf, refused, _gives_}
 use Rattle.refusal.proofs.Rules.{fires, fires-left, fires-right, none-fires}
 use Rattle.word.proofs.Tests.{tests}
 use Rattle.format.specs.Format.{maxChannels}
 use Rattle.word.proofs.Belows.{and-left, fails}
-use Rattle.encoder.specs.Calls.{HandsBack, Told, frameMemory, frameTold, headMemory, headTold, onto, refuses, refuses-14, wrote}
+use Rattle.refusal.specs.Lent.{laidOver}
+use Rattle.encoder.specs.Calls.{HandsBack, Told, frameMemory, frameTold, headMemory, headTold, refuses, refuses-14, wrote}
 use Rattle.encoder.specs.Encoder.{EncoderView, createRules, goodEncoder, newView, encoderView}
 use Rattle.encoder.specs.Frame.{encodeRules}
 use Rattle.encoder.specs.Head.{headRules}
@@ -37,7 +38,7 @@ pub record Refusing (v : EncoderView) (told : Told) (memory out : List ℕ) : Ty
   pub untouched : goodEncoder v ≡ false → memory ≡ out
 
 pub head-refuses : (v : EncoderView) (out : List ℕ) → Refusing v (headTold v (length out)) (headMemory v out) out
-unfolding headRules
+unfolding headRules laidOver
 head-refuses v out = record { by-eight = λ e. rw (bad-first v _ e); untouched = λ e. rw (bad-first v _ e) }
 
 pub frame-refuses : (v : EncoderView) (samples : List ℤ) (out : List ℕ) → Refusing v (frameTold v samples (length out)) (frameMemory v samples out) out
@@ -106,9 +107,10 @@ module _ (block : List ℕ) (e : readableEncoder block ≡ true) (told : Told) (
 
 module _ (c rate total : ℕ) (block : List ℕ) where
   pub new-refused : (n : ℕ) (r : ℤ) → firstOf (newRules c rate total (length block)) ≡ some n → r ≡ coded (refused n) → NewLinked c rate total block r block
+  unfolding laidOver
   new-refused n r e code = record { answer = code ∙ rw e; state = rw e }
 
-  pub new-done : (r : ℤ) (block' : List ℕ) → firstOf (newRules c rate total (length block)) ≡ none → r ≡ pos 0 → block' ≡ onto block (encoderBytes (newView c rate total)) → NewLinked c rate total block r block'
+  pub new-done : (r : ℤ) (block' : List ℕ) → firstOf (newRules c rate total (length block)) ≡ none → r ≡ pos 0 → block' ≡ laidOver block 0 (good (encoderBytes (newView c rate total))) → NewLinked c rate total block r block'
   new-done r block' e code kept = record { answer = code ∙ rw e; state = kept ∙ rw e }
 
   -- refused by the numbers, or by the room

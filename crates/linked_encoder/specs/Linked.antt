@@ -6,8 +6,9 @@ use mathlib.Core.List.{List, [], _∷_, _++_}
 use lib.Dec.{ltb}
 use lib.IntN.{ℤ}
 use lib.ListN.{length}
-use Rattle.refusal.specs.Rules.{Rule, after, firstOf, good, _gives_}
-use Rattle.encoder.specs.Calls.{Told, frameMemory, frameTold, headMemory, headTold, ifSome, onto, refuses, refuses-14, wrote}
+use Rattle.refusal.specs.Rules.{Rule, after, good, _gives_}
+use Rattle.refusal.specs.Lent.{laidOver}
+use Rattle.encoder.specs.Calls.{Told, frameMemory, frameTold, headMemory, headTold, refuses, refuses-14, wrote}
 use Rattle.encoder.specs.Encoder.{EncoderView, createRules, newView}
 use Rattle.encoder.specs.Frame.{afterFrame}
 use Rattle.oneshot.specs.OneShot.{stateBefore, framesOf, shotRules}
@@ -21,7 +22,7 @@ toldBy block told = cond (isEncoder block) told (refuses 8)
 
 -- the block after a call: as it was on a refusal, else the next state's at its start
 abbrev pub encoderLeft : Told → EncoderView → List ℕ → List ℕ
-encoderLeft (wrote n) next block = onto block (encoderBytes next)
+encoderLeft (wrote n) next block = laidOver block 0 (good (encoderBytes next))
 encoderLeft (refuses n) next block = block
 encoderLeft (refuses-14 count channel) next block = block
 
@@ -60,4 +61,4 @@ newRules c rate total room = createRules c rate total ++ ((ltb room encoderSize 
 
 pub record NewLinked (c rate total : ℕ) (block : List ℕ) (r : ℤ) (block' : List ℕ) : Type 0 where
   pub answer : r ≡ coded (after (newRules c rate total (length block)) (good 0))
-  pub state : block' ≡ ifSome (firstOf (newRules c rate total (length block))) (λ n. block) (onto block (encoderBytes (newView c rate total)))
+  pub state : block' ≡ laidOver block 0 (after (newRules c rate total (length block)) (good (encoderBytes (newView c rate total))))

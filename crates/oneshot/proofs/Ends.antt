@@ -6,11 +6,12 @@ use mathlib.Core.Option.{none, some}
 use native.Mathlib.Omega.{arith}
 use lib.IntN.{ℤ}
 use lib.ListN.{length}
-use Rattle.refusal.specs.Rules.{Rule, firstOf}
+use Rattle.refusal.specs.Rules.{good, Rule, firstOf}
 use Rattle.refusal.proofs.Rules.{fires-left, fires-right, quiet}
 use Rattle.word.proofs.Tests.{tests}
 use Rattle.encoder.specs.Encoder.{EncoderView, encoderView, createRules, newView}
-use Rattle.encoder.specs.Calls.{onto, refuses, refuses-14, toldEncode, wrote}
+use Rattle.refusal.specs.Lent.{laidOver}
+use Rattle.encoder.specs.Calls.{refuses, refuses-14, toldEncode, wrote}
 use Rattle.encoder.specs.declared.EncodeAnswer.{EncodeAnswer}
 use Rattle.encoder.specs.declared.EncodedBytes.{EncodedBytes}
 use Rattle.encoder.specs.declared.QoaEncoder.{QoaEncoder}
@@ -40,12 +41,12 @@ module _ (e : QoaEncoder) (samples : List ℤ) (out : List ℕ) (r : EncodedByte
   shot-refused n fired t m s = record { told = rw fired t; memory = rw fired m; back = rw fired s }
 
   pub shot-wide : (stop : Stop) → firstOf shotsOf ≡ none → stopIn (encoderView e) samples (framesOf (encoderView e)) ≡ some stop
-      → toldEncode (r .answer) ≡ refuses-14 (length (bytesBefore (encoderView e) samples (stop .frame))) (stop .channel) → left ≡ onto out (bytesBefore (encoderView e) samples (stop .frame)) → r .state ≡ e
+      → toldEncode (r .answer) ≡ refuses-14 (length (bytesBefore (encoderView e) samples (stop .frame))) (stop .channel) → left ≡ laidOver out 0 (good (bytesBefore (encoderView e) samples (stop .frame))) → r .state ≡ e
       → ShotDone e samples out r left
   unfolding shotTold shotMemory
   shot-wide stop quiet wide t m s = record { told = rw (quiet, wide) t; memory = rw (quiet, wide) m; back = rw (quiet, wide) s }
 
-  pub shot-done : firstOf shotsOf ≡ none → stopIn (encoderView e) samples (framesOf (encoderView e)) ≡ none → toldEncode (r .answer) ≡ wrote (fileNeed (encoderView e)) → left ≡ onto out (fileBytes (encoderView e) samples)
+  pub shot-done : firstOf shotsOf ≡ none → stopIn (encoderView e) samples (framesOf (encoderView e)) ≡ none → toldEncode (r .answer) ≡ wrote (fileNeed (encoderView e)) → left ≡ laidOver out 0 (good (fileBytes (encoderView e) samples))
       → encoderView (r .state) ≡ stateBefore (encoderView e) samples (framesOf (encoderView e)) → ShotDone e samples out r left
   unfolding shotTold shotMemory
   shot-done quiet wide t m s = record { told = rw (quiet, wide) t; memory = rw (quiet, wide) m; back = rw (quiet, wide) s }

@@ -1,7 +1,7 @@
 -- Laws of a whole file: the samples of its frames, its length, and one frame more. Assumes nothing.
 use Prim.Native.Nat.{ℕ, zero, suc, _+_, _*_, _-_, _≤_, _<_, min}
 use mathlib.Core.Path.{_≡_, refl, ap, ap₂, sym, _∙_}
-use mathlib.Core.List.{List, _++_}
+use mathlib.Core.List.{List}
 use mathlib.Core.Logic.{dite, ⊎-elim}
 use mathlib.Core.Option.{none, some}
 use native.Mathlib.Decide.{decLe}
@@ -9,20 +9,20 @@ use native.Mathlib.Nat.{mul-div-left, mul-le-mul-left, mul-le-mul-right, eq-or-l
 use native.Mathlib.Omega.{arith}
 use lib.IntN.{ℤ}
 use lib.ListN.{length, take, drop, length-append, length-drop, length-take}
-use lib.Seq.{drop-append-add, drop-drop, take-all}
+use lib.Seq.{take-all}
 use Rattle.format.specs.Format.{frameLen, frameLength, slicesOf, stateEnd}
 use Rattle.encoder.specs.Encoder.{EncoderView, encoderView}
 use Rattle.encoder.specs.Frame.{afterFrame, firstWide, frameBytes, perChannel}
 use Rattle.oneshot.specs.OneShot.{Stop, stateBefore, bytesBefore, chunk, fileBytes, fileNeed, framesIn, framesOf, needOf, stopIn}
-use Rattle.encoder.specs.Calls.{onto}
-use Rattle.body.specs.Laid.{overlaid}
+use Rattle.refusal.specs.Rules.{good}
+use Rattle.refusal.specs.Lent.{laidOver}
 use Rattle.encoder.specs.Parts.{FrameFits}
 use Rattle.oneshot.specs.Parts.{framePlace}
 use Rattle.encoder.specs.declared.QoaEncoder.{QoaEncoder}
 use Rattle.encoder.proofs.Frames.{after-good, length-frame, wide-view}
 use Rattle.encoder.proofs.GoodEncoders.{Good}
-use Rattle.encoder.proofs.Heads.{length-head, over-start}
-use Rattle.body.proofs.Overlays.{over-then}
+use Rattle.encoder.proofs.Heads.{length-head}
+use Rattle.refusal.proofs.Lents.{over-then}
 
 -- ---- the samples of a frame
 
@@ -40,22 +40,6 @@ chunk-part c samples f end e =
     let start : ℕ = frameLen * c * f in
     let count : end - start ≡ min (frameLen * c) (length (drop start samples)) = rw length-drop (omega arith) in
     ap (λ (n : ℕ). take n (drop start samples)) count ∙ take-min (frameLen * c) (drop start samples)
-
--- ---- what is laid on what
-
--- bytes over the header that was there
-pub onto-head : (out head xs : List ℕ) → length head ≤ length xs → onto (onto out head) xs ≡ onto out xs
-onto-head out head xs h =
-    let k : ℕ = length xs - length head in
-    let far : length xs ≡ length head + k = omega arith in
-    ap (λ (l : List ℕ). xs ++ l)
-    (ap (λ (n : ℕ). drop n (head ++ drop (length head) out)) far
-    ∙ drop-append-add head (drop (length head) out) k
-    ∙ drop-drop k (length head) out
-    ∙ ap (λ (n : ℕ). drop n out) (sym far))
-
-pub length-onto : (out xs : List ℕ) → length xs ≤ length out → length (onto out xs) ≡ length out
-length-onto out xs h = simp (length-append, length-drop) (omega arith)
 
 -- ---- the frames of a file
 
@@ -209,10 +193,9 @@ module _ (v : EncoderView) (samples : List ℤ) where
       view-next = rw (same, channels-are)
 
       pub chunk-over : (start : List ℕ) → length (bytesBefore v samples f) ≤ length start
-          → overlaid (onto start (bytesBefore v samples f)) (framePlace (s .channels) f) (frameBytes (encoderView s) (chunk (s .channels) samples f)) ≡ onto start (bytesBefore v samples (suc f))
+          → laidOver (laidOver start 0 (good (bytesBefore v samples f))) (framePlace (s .channels) f) (good (frameBytes (encoderView s) (chunk (s .channels) samples f))) ≡ laidOver start 0 (good (bytesBefore v samples (suc f)))
       unfolding bytesBefore
       chunk-over start room =
           let b = bytesBefore v samples f in
           let x = frameBytes (stateBefore v samples f) (chunk (v .channels) samples f) in
-          rw (same, channels-are, ← over-start start b)
-          (over-then start 0 (framePlace (v .channels) f) b x (omega (arith, place-before f h)) (omega arith) ∙ over-start start (b ++ x))
+          rw (same, channels-are) (over-then start 0 (framePlace (v .channels) f) b x (omega (arith, place-before f h)) (omega arith))

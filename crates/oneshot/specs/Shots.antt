@@ -4,9 +4,10 @@ use mathlib.Core.Path.{_≡_}
 use mathlib.Core.List.{List, _++_}
 use lib.IntN.{ℤ}
 use lib.ListN.{length}
-use Rattle.refusal.specs.Rules.{Rule, firstOf}
+use Rattle.refusal.specs.Rules.{good, Rule, firstOf}
 use Rattle.encoder.specs.Encoder.{EncoderView, encoderView, createRules, newView}
-use Rattle.encoder.specs.Calls.{HandsBack, Told, ifSome, onto, refuses, refuses-14, toldEncode, wrote}
+use Rattle.refusal.specs.Lent.{laidOver}
+use Rattle.encoder.specs.Calls.{HandsBack, Told, ifSome, refuses, refuses-14, toldEncode, wrote}
 use Rattle.encoder.specs.declared.QoaEncoder.{QoaEncoder}
 use Rattle.encoder.specs.declared.EncodedBytes.{EncodedBytes}
 use Rattle.encoder.specs.declared.EncodeAnswer.{EncodeAnswer}
@@ -22,8 +23,8 @@ shotTold rules v samples =
 unfoldable pub shotMemory : List Rule → EncoderView → List ℤ → List ℕ → List ℕ
 shotMemory rules v samples out =
     ifSome (firstOf rules) (λ n. out)
-    (ifSome (stopIn v samples (framesOf v)) (λ s. onto out (bytesBefore v samples (s .frame)))
-    (onto out (fileBytes v samples)))
+    (ifSome (stopIn v samples (framesOf v)) (λ s. laidOver out 0 (good (bytesBefore v samples (s .frame))))
+    (laidOver out 0 (good (fileBytes v samples))))
 
 pub record ShotDone (e : QoaEncoder) (samples : List ℤ) (out : List ℕ) (r : EncodedBytes) (left : List ℕ) : Type 0 where
   pub told : toldEncode (r .answer) ≡ shotTold (shotRules (encoderView e) samples (length out)) (encoderView e) samples

@@ -3,12 +3,12 @@ ghost use mathlib.Core.Path.{_≡_};
 ghost use mathlib.Core.Option.{none};
 ghost use Prim.Native.Nat.{_+_, _-_, _*_, _≤_, _<_, _^_, min};
 ghost use lib.ListN.{length};
-ghost use Rattle.refusal.specs.Rules.{firstOf};
+ghost use Rattle.refusal.specs.Rules.{good, firstOf};
 ghost use Rattle.format.specs.Format.{frameLen, frameLength, maxChannels};
 ghost use Rattle.refusal.specs.Refusals.{toldChecked};
 ghost use Rattle.encoder.specs.Encoder.{encoderView};
 ghost use Rattle.encoder.specs.Frame.{afterFrame, frameBytes, perChannel};
-ghost use Rattle.body.specs.Laid.{overlaid};
+ghost use Rattle.refusal.specs.Lent.{laidOver};
 ghost use Rattle.encoder.specs.Parts.{FrameFits};
 ghost use Rattle.oneshot.specs.OneShot.{chunk, shotRules};
 ghost use Rattle.oneshot.specs.Parts.{framePlace};
@@ -78,7 +78,7 @@ fn put_chunk(e: QoaEncoder, samples: &[i16], f: usize, out: &mut [u8]) -> QoaEnc
     requires fits { ⌜ FrameFits (encoderView e) (chunk (e .channels) (now samples) f) ⌝ }
     requires room { ⌜ framePlace (e .channels) f + frameLength (e .channels) (perChannel (encoderView e) (chunk (e .channels) (now samples) f)) ≤ length (now out) ⌝ }
     ensures state { λ r. ⌜ encoderView r ≡ afterFrame (encoderView e) (chunk (e .channels) (now (samples .entry)) f) ⌝ }
-    ensures bytes { λ r. ⌜ now (out .exit) ≡ overlaid (now (out .entry)) (framePlace (e .channels) f) (frameBytes (encoderView e) (chunk (e .channels) (now (samples .entry)) f)) ⌝ }
+    ensures bytes { λ r. ⌜ now (out .exit) ≡ laidOver (now (out .entry)) (framePlace (e .channels) f) (good (frameBytes (encoderView e) (chunk (e .channels) (now (samples .entry)) f))) ⌝ }
 {
     let channels = e.channels as usize;
     let most = QOA_FRAME_LEN * channels;

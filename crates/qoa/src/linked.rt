@@ -7,7 +7,8 @@ ghost use Rattle.format.specs.Part.{partLength};
 ghost use Rattle.state.specs.Facts.{toldFacts};
 ghost use Rattle.file.specs.Whole.{audioIn, decode};
 ghost use Rattle.file.specs.Streaming.{streamed};
-ghost use Rattle.whole.specs.Told.{countIn, heardIn, kept};
+ghost use Rattle.refusal.specs.Lent.{laidOver};
+ghost use Rattle.whole.specs.Told.{countIn, heardIn};
 ghost use Rattle.encoder.specs.Encoder.{newView};
 ghost use Rattle.oneshot.specs.OneShot.{needOf, needRules};
 ghost use Rattle.oneshot.specs.Shots.{allRules, shotMemory, shotTold};
@@ -25,7 +26,7 @@ use state::FactsAnswer;
 #[no_mangle]
 pub extern "C" fn qoa_decode_all(bytes: &[u8], out: &mut [i16]) -> i64
     ensures answer { λ r. ⌜ r ≡ coded (sampleCount (decode (length (now (out .entry))) (now (bytes .entry)))) ⌝ }
-    ensures samples { λ r. ⌜ now (out .exit) ≡ kept (heardIn (decode (length (now (out .entry))) (now (bytes .entry)))) (now (out .entry)) ⌝ }
+    ensures samples { λ r. ⌜ now (out .exit) ≡ laidOver (now (out .entry)) 0 (heardIn (decode (length (now (out .entry))) (now (bytes .entry)))) ⌝ }
 {
     match whole::decode_all(bytes, out) {
         SummaryAnswer::Refused(why) => minus(why),
@@ -70,7 +71,7 @@ pub extern "C" fn qoa_rate(bytes: &[u8]) -> i64
 #[no_mangle]
 pub extern "C" fn qoa_decode_frames(bytes: &[u8], out: &mut [i16]) -> i64
     ensures answer { λ r. ⌜ r ≡ coded (countIn (streamed (length (now (out .entry))) (now (bytes .entry)))) ⌝ }
-    ensures samples { λ r. ⌜ now (out .exit) ≡ kept (streamed (length (now (out .entry))) (now (bytes .entry))) (now (out .entry)) ⌝ }
+    ensures samples { λ r. ⌜ now (out .exit) ≡ laidOver (now (out .entry)) 0 (streamed (length (now (out .entry))) (now (bytes .entry))) ⌝ }
 {
     match whole::decode_frames(bytes, out) {
         CountAnswer::Refused(r) => minus(r),

@@ -6,10 +6,11 @@ use mathlib.Core.Option.{Option, none, some}
 use lib.IntN.{ℤ}
 use lib.ListN.{length}
 use Rattle.refusal.specs.Rules.{good, after, firstOf}
-use Rattle.word.specs.Written.{written}
+use Rattle.refusal.specs.Lent.{laidOver}
+use Rattle.word.specs.Written.{table}
 use Rattle.state.specs.View.{View, view}
 use Rattle.state.specs.declared.QoaDecoder.{QoaDecoder}
-use Rattle.into.specs.Into.{comingAt, intoAfter, intoCount, intoRules, storedUnless}
+use Rattle.into.specs.Into.{comingAt, intoAfter, intoCount, intoRules}
 use Rattle.frames.specs.Frames.{nextAfter, nextFound, nextRules, toldFrame}
 use Rattle.decoder.specs.Items.{itemAfter, itemOf, itemRules, toldItem}
 use Rattle.into.specs.declared.DecodedInto.{DecodedInto}
@@ -44,7 +45,7 @@ Handed (some n) at d v at' after = (at' ≡ at) × (after ≡ d)
 pub record IntoRead (bs : List ℕ) (at : ℕ) (d : QoaDecoder) (out : List ℤ) (at' : ℕ) (r : DecodedInto) (out' : List ℤ) : Type 0 where
   pub told : toldCount (r .answer) ≡ after (intoRules bs (there at d) (length out)) (good (intoCount (there at d) (length out)))
   pub left : Handed (firstOf (intoRules bs (there at d) (length out))) at d (intoAfter bs (there at d) (length out)) at' (r .state)
-  pub stored : out' ≡ storedUnless (firstOf (intoRules bs (there at d) (length out))) (written (comingAt bs (there at d)) out 0 1 (intoCount (there at d) (length out))) out
+  pub stored : out' ≡ laidOver out 0 (after (intoRules bs (there at d) (length out)) (good (table (intoCount (there at d) (length out)) (comingAt bs (there at d)))))
 
 pub record FrameRead (bs : List ℕ) (at : ℕ) (d : QoaDecoder) (at' : ℕ) (r : NextFrame) : Type 0 where
   pub told : toldFrame (r .answer) ≡ after (nextRules bs (there at d)) (good (nextFound bs (there at d)))

@@ -1,3 +1,4 @@
 -- What the contracts cite.
 pub mod Rules
 pub mod Refusals
+pub mod Lent

@@ -1,21 +1,22 @@
 -- What an accepted call leaves in the lent output: up to the count that it tells, the bytes of the frame or the file; so the theorems hold of the code.
 -- Assumes nothing.
-use Prim.Native.Nat.{ℕ, _-_}
+use Prim.Native.Nat.{ℕ}
 use mathlib.Core.Path.{_≡_, refl, sym, _∙_}
 use mathlib.Core.List.{List}
 use lib.IntN.{ℤ}
-use lib.ListN.{length, take, drop}
-use lib.Seq.{take-at}
-use Rattle.refusal.specs.Rules.{Rule}
+use lib.ListN.{length, take}
+use Rattle.refusal.specs.Rules.{good, Rule}
 use Rattle.encoder.specs.Encoder.{EncoderView, newView, encoderView}
 use Rattle.encoder.specs.Frame.{frameBytes}
 use Rattle.oneshot.specs.OneShot.{fileBytes, shotRules}
 use Rattle.encoder.specs.Head.{headBytes}
 use Rattle.oneshot.specs.Shots.{AllDone, ShotDone, allRules, shotMemory, shotTold}
-use Rattle.encoder.specs.Calls.{FrameDone, frameMemory, frameTold, headMemory, headTold, onto, toldEncode, wrote}
+use Rattle.refusal.specs.Lent.{laidOver}
+use Rattle.encoder.specs.Calls.{FrameDone, frameMemory, frameTold, headMemory, headTold, toldEncode, wrote}
 use Rattle.encoder.specs.declared.EncodeAnswer.{EncodeAnswer}
 use Rattle.encoder.specs.declared.EncodedBytes.{EncodedBytes}
 use Rattle.encoder.specs.declared.QoaEncoder.{QoaEncoder}
+use Rattle.refusal.proofs.Lents.{over-front}
 use Rattle.oneshot.proofs.Files.{file-long}
 use Rattle.encoder.proofs.Frames.{length-frame}
 use Rattle.encoder.proofs.Heads.{length-head}
@@ -29,7 +30,7 @@ pub head-left : (v : EncoderView) (out : List ℕ) (count : ℕ) → headTold v 
 head-left v out count told =
     let passed = head-passed v (length out) count told in
     let bytes = headBytes (v .total) in
-    rw (passed .0) (take-at bytes (drop (length bytes) out) count (length-head (v .total) ∙ passed .1))
+    rw (passed .0) (over-front out bytes count (length-head (v .total) ∙ passed .1))
 
 -- ---- after an accepted call for a frame
 
@@ -41,10 +42,10 @@ frame-left e samples out r left count done tells =
     let told : frameTold v samples (length out) ≡ wrote count = sym (done .told) ∙ tells in
     let passed = frame-passed v samples (length out) count told in
     let bytes = frameBytes v samples in
-    let memory : left ≡ onto out bytes = rw (passed .quiet-rules, passed .narrow) at (done .memory) in
+    let memory : left ≡ laidOver out 0 (good bytes) = rw (passed .quiet-rules, passed .narrow) at (done .memory) in
     record {
       accepted = record { room = length out; count = count; told = told };
-      bytes = rw memory (take-at bytes (drop (length bytes) out) count (length-frame v samples ∙ passed .counted));
+      bytes = rw memory (over-front out bytes count (length-frame v samples ∙ passed .counted));
       next = rw told at (done .back);
     }
 
@@ -56,8 +57,8 @@ unfolding shotMemory
 shot-memory rules v samples out left count s told e =
     let passed = shot-passed rules v samples count told in
     let bytes = fileBytes v samples in
-    let memory : left ≡ onto out bytes = rw (passed .quiet-rules, passed .no-stop) at e in
-    rw memory (take-at bytes (drop (length bytes) out) count (file-long v samples (s .good .some-channels) (s .whole) ∙ passed .counted))
+    let memory : left ≡ laidOver out 0 (good bytes) = rw (passed .quiet-rules, passed .no-stop) at e in
+    rw memory (over-front out bytes count (file-long v samples (s .good .some-channels) (s .whole) ∙ passed .counted))
 
 pub shot-left : (e : QoaEncoder) (samples : List ℤ) (out : List ℕ) (r : EncodedBytes) (left : List ℕ) (count : ℕ)
     → ShotDone e samples out r left → toldEncode (r .answer) ≡ wrote count → FileLeft (encoderView e) samples count left

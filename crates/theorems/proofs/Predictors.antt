@@ -1,5 +1,5 @@
 -- A predictor, read back: from its bytes come its four history and four weight numbers, and nothing else of it counts. Assumes nothing.
-use Prim.Native.Nat.{ℕ, zero, suc, _+_, _/_, _%_}
+use Prim.Native.Nat.{ℕ, zero, suc, _/_, _%_}
 use mathlib.Core.Path.{_≡_, refl, ap, sym, _∙_}
 use mathlib.Core.List.{List, [], append-nil}
 use native.Mathlib.Omega.{arith}
@@ -20,7 +20,8 @@ use Rattle.format.specs.Predictor.{fourWord, lmsAt}
 use Rattle.predictors.proofs.Predictors.{four-low, lms-of-put-low}
 use Rattle.groups.specs.Channel.{channelAt, runAfter}
 use Rattle.slice.specs.Slice.{residualAt, sampleAt, stateAfter}
-use Rattle.body.specs.Laid.{lmsBytes, overlaid}
+use Rattle.refusal.specs.Lent.{laidOver}
+use Rattle.body.specs.Laid.{lmsBytes}
 use Rattle.body.proofs.Laids.{length-lms, over-lms}
 use Rattle.lms.specs.Parts.{HistoryFits}
 use Rattle.format.specs.Parts.{fourOf, putLms}
@@ -67,10 +68,10 @@ four-read xs fit = four-low xs ∙ table-ext 4 (λ i. toZ w16 (low16 (at xs i)))
 
 -- stored over its own bytes, a predictor is its bytes
 stored-bytes : (s : QoaLms) → putLms (lmsBytes s) 0 s ≡ lmsBytes s
-unfolding overlaid
+unfolding laidOver
 stored-bytes s =
     let long = length-lms s in
-    let past : drop (0 + length (lmsBytes s)) (lmsBytes s) ≡ [] = drop-of-length-le (lmsBytes s) {i = 0 + length (lmsBytes s)} (omega arith) in
+    let past : drop (length (lmsBytes s)) (lmsBytes s) ≡ [] = drop-of-length-le (lmsBytes s) {i = length (lmsBytes s)} (omega arith) in
     over-lms (lmsBytes s) 0 s (omega arith) ∙ rw past (append-nil (lmsBytes s))
 
 pub lms-read : (s : QoaLms) → HistoryFits s → ((i : ℕ) → SFits w16 (at (s .weights) i)) → lmsAt (lmsBytes s) 0 ≡ firstFour s

@@ -32,7 +32,8 @@ use Rattle.decoder.proofs.Settled as D
 use Rattle.file.specs.Whole.{audioIn, decode}
 use Rattle.file.specs.Streaming.{streamed}
 use Rattle.refusal.specs.declared.SummaryAnswer.{SummaryAnswer}
-use Rattle.whole.specs.Told.{countIn, heardIn, kept, summaryIn}
+use Rattle.refusal.specs.Lent.{laidOver}
+use Rattle.whole.specs.Told.{countIn, heardIn, summaryIn}
 use Rattle.reader.specs.Read.{FrameRead, IntoRead, ItemRead}
 use Rattle.reader.specs.declared.FramePart.{FramePart}
 use Rattle.reader.specs.declared.OpenedReader.{OpenedReader}
@@ -84,8 +85,8 @@ next-item = D.next-item-settled
 -- ---- whole files, streaming frames, the frame part
 
 pub decode-all : (bs : List ℕ) (out : List ℤ) (r s : SummaryAnswer) (x y : List ℤ)
-    → (toldSummary r ≡ summaryIn (decode (length out) bs)) × (x ≡ kept (heardIn (decode (length out) bs)) out)
-    → (toldSummary s ≡ summaryIn (decode (length out) bs)) × (y ≡ kept (heardIn (decode (length out) bs)) out)
+    → (toldSummary r ≡ summaryIn (decode (length out) bs)) × (x ≡ laidOver out 0 (heardIn (decode (length out) bs)))
+    → (toldSummary s ≡ summaryIn (decode (length out) bs)) × (y ≡ laidOver out 0 (heardIn (decode (length out) bs)))
     → (r ≡ s) × (x ≡ y)
 decode-all bs out r s x y p q = (told-summary r s (same (p .0) (q .0)), same (p .1) (q .1))
 
@@ -93,8 +94,8 @@ pub decode-need : (bs : List ℕ) (r s : SummaryAnswer) → toldSummary r ≡ su
 decode-need bs r s p q = told-summary r s (same p q)
 
 pub decode-frames : (bs : List ℕ) (out : List ℤ) (r s : CountAnswer) (x y : List ℤ)
-    → (toldCount r ≡ countIn (streamed (length out) bs)) × (x ≡ kept (streamed (length out) bs) out)
-    → (toldCount s ≡ countIn (streamed (length out) bs)) × (y ≡ kept (streamed (length out) bs) out)
+    → (toldCount r ≡ countIn (streamed (length out) bs)) × (x ≡ laidOver out 0 (streamed (length out) bs))
+    → (toldCount s ≡ countIn (streamed (length out) bs)) × (y ≡ laidOver out 0 (streamed (length out) bs))
     → (r ≡ s) × (x ≡ y)
 decode-frames bs out r s x y p q = (told-count r s (same (p .0) (q .0)), same (p .1) (q .1))
 
@@ -181,8 +182,8 @@ reader-decode-from = R.decode-from-settled
 -- ---- the C functions: the answer is one number (qoa/specs/Coded)
 
 pub qoa-decode-all : (bs : List ℕ) (out : List ℤ) (r s : ℤ) (x y : List ℤ)
-    → (r ≡ coded (sampleCount (decode (length out) bs))) × (x ≡ kept (heardIn (decode (length out) bs)) out)
-    → (s ≡ coded (sampleCount (decode (length out) bs))) × (y ≡ kept (heardIn (decode (length out) bs)) out)
+    → (r ≡ coded (sampleCount (decode (length out) bs))) × (x ≡ laidOver out 0 (heardIn (decode (length out) bs)))
+    → (s ≡ coded (sampleCount (decode (length out) bs))) × (y ≡ laidOver out 0 (heardIn (decode (length out) bs)))
     → (r ≡ s) × (x ≡ y)
 qoa-decode-all bs out r s x y p q = (same (p .0) (q .0), same (p .1) (q .1))
 
@@ -196,8 +197,8 @@ pub qoa-rate : (bs : List ℕ) (r s : ℤ) → r ≡ coded (rateIn (audioIn bs))
 qoa-rate bs r s = same
 
 pub qoa-decode-frames : (bs : List ℕ) (out : List ℤ) (r s : ℤ) (x y : List ℤ)
-    → (r ≡ coded (countIn (streamed (length out) bs))) × (x ≡ kept (streamed (length out) bs) out)
-    → (s ≡ coded (countIn (streamed (length out) bs))) × (y ≡ kept (streamed (length out) bs) out)
+    → (r ≡ coded (countIn (streamed (length out) bs))) × (x ≡ laidOver out 0 (streamed (length out) bs))
+    → (s ≡ coded (countIn (streamed (length out) bs))) × (y ≡ laidOver out 0 (streamed (length out) bs))
     → (r ≡ s) × (x ≡ y)
 qoa-decode-frames bs out r s x y p q = (same (p .0) (q .0), same (p .1) (q .1))
 

@@ -1,13 +1,12 @@
 -- Decoding frames that a survey has passed: what one frame leaves in lent memory, and the end. Assumes nothing.
 use Prim.Native.Nat.{ℕ, _+_, _-_, _≤_, _<_}
 use mathlib.Core.Path.{_≡_, refl, sym, ap, _∙_}
-use mathlib.Core.List.{List, [], _++_, flatMap, append-assoc}
+use mathlib.Core.List.{List, [], _++_, flatMap}
 use mathlib.Core.Option.{Option, none, some}
-use native.Mathlib.Nat.{add-zero, sub-zero, sub-add-eq, zero-add}
+use native.Mathlib.Nat.{sub-zero, sub-add-eq}
 use native.Mathlib.Omega.{arith}
 use lib.IntN.{ℤ}
-use lib.ListN.{length, take, drop, length-append, length-drop, take-append-drop}
-use lib.Seq.{drop-at, drop-drop, length-take-le, take-at}
+use lib.ListN.{length, drop, length-append, length-drop}
 use Rattle.refusal.specs.Rules.{Answer, firstOf, good, refused, _then_}
 use Rattle.refusal.proofs.Rules.{Quiet, none-fires}
 use Rattle.word.proofs.Tests.{tests}
@@ -23,8 +22,9 @@ use Rattle.file.proofs.Frames.{Fit, free-fit, header-at}
 use Rattle.file.proofs.Needs.{frame-need}
 use Rattle.file.proofs.Places.{header-here}
 use Rattle.file.proofs.Walks.{walks}
-use Rattle.whole.specs.Told.{kept}
-use Rattle.whole.specs.Parts.{HasRoom, held, heldFrames, keptAt, shortTail}
+use Rattle.refusal.specs.Lent.{laidOver}
+use Rattle.refusal.proofs.Lents.{length-over, over-nil, over-then}
+use Rattle.whole.specs.Parts.{HasRoom, held, heldFrames, shortTail}
 use Rattle.survey.specs.declared.Kind.the-variants.{Any}
 use Rattle.survey.proofs.FrameKinds.{passed}
 use Rattle.survey.proofs.Walking.{after-here, walk-ended, walk-on, walk-refused}
@@ -91,45 +91,16 @@ module _ (b : List ℕ) where
 
 -- ---- what it leaves
 
-module _ (out f : List ℤ) (i k : ℕ) (size : length f ≡ k) (room : i + k ≤ length out) where
-  stored : List ℤ
-  stored = take i out ++ (f ++ drop (i + k) out)
+-- those of a frame, then those of the others
+keep-on : (out f : List ℤ) (i k : ℕ) → length f ≡ k → i + k ≤ length out → (a : Answer (List ℤ)) (left : ℕ) → HasRoom a left → laidOver out i (withSamples f a) ≡ laidOver (laidOver out i (good f)) (i + k) a
+keep-on out f i k size room (refused n) left h = absurd h
+keep-on out f i k size room (good xs) left h = sym (over-then out i (i + k) f xs (omega arith) (omega arith))
 
-  front-size : length (take i out ++ f) ≡ i + k
-  front-size = rw (length-append, length-take-le i out (omega arith), size)
-
-  regroup : stored ≡ (take i out ++ f) ++ drop (i + k) out
-  unfolding stored
-  regroup = sym (append-assoc (take i out) f (drop (i + k) out))
-
-  take-stored : take (i + k) stored ≡ take i out ++ f
-  take-stored = rw regroup (take-at (take i out ++ f) (drop (i + k) out) (i + k) front-size)
-
-  drop-stored : (n : ℕ) → drop (i + k + n) stored ≡ drop (i + k + n) out
-  drop-stored n =
-      sym (drop-drop n (i + k) stored)
-      ∙ ap (drop n) (rw regroup (drop-at (take i out ++ f) (drop (i + k) out) (i + k) front-size))
-      ∙ drop-drop n (i + k) out
-
-  pub keep-on : (a : Answer (List ℤ)) (left : ℕ) → HasRoom a left → keptAt i (withSamples f a) out ≡ keptAt (i + k) a (take i out ++ (f ++ drop (i + k) out))
-  unfolding stored
-  keep-on (refused n) left h = absurd h
-  keep-on (good xs) left h =
-      let sum : i + length (f ++ xs) ≡ i + k + length xs = omega (arith, length-append f xs) in
-      rw (take-stored, drop-stored (length xs), sum, append-assoc f xs (drop (i + k + length xs) out), append-assoc (take i out) f (xs ++ drop (i + k + length xs) out))
-
--- ---- the start and the end
+-- ---- the end
 
 pub held-end : (b : List ℕ) → length b < 8 → held b ≡ good []
 unfolding held flatMap
 held-end b short = rw (walk-ended heldFrames b short (none-fires (shortTail (length b)) (short-quiet (length b) short)))
-
-pub kept-end : (i : ℕ) (out : List ℤ) → keptAt i (good []) out ≡ out
-kept-end i out = rw add-zero (take-append-drop i out)
-
-pub kept-start : (a : Answer (List ℤ)) (out : List ℤ) → keptAt 0 a out ≡ kept a out
-kept-start (refused n) out = refl
-kept-start (good xs) out = rw zero-add
 
 -- ---- a loop over the frames
 
@@ -164,39 +135,36 @@ pub record Decoded (s : List ℕ) (first : ℕ) (lent out : List ℤ) (at done :
   pub stored : done ≤ length out
   pub long : length out ≡ length lent
   pub room : HasRoom (held (drop at s)) (length out - done)
-  pub same : keptAt 0 (held (drop first s)) lent ≡ keptAt done (held (drop at s)) out
+  pub same : laidOver lent 0 (held (drop first s)) ≡ laidOver out done (held (drop at s))
 
 pub decoded-start : (s : List ℕ) (first : ℕ) (lent : List ℤ) → first ≤ length s → HasRoom (held (drop first s)) (length lent) → Decoded s first lent lent first 0
 decoded-start s first lent within room = record { within = within; stored = omega arith; long = refl; room = rw sub-zero room; same = refl }
 
-pub decoded-end : (s : List ℕ) (first : ℕ) (lent out : List ℤ) (at done : ℕ) → Decoded s first lent out at done → length s - at < 8 → out ≡ kept (held (drop first s)) lent
+pub decoded-end : (s : List ℕ) (first : ℕ) (lent out : List ℤ) (at done : ℕ) → Decoded s first lent out at done → length s - at < 8 → out ≡ laidOver lent 0 (held (drop first s))
 decoded-end s first lent out at done d short =
     let ends = held-end (drop at s) (omega (arith, length-drop at s)) in
-    sym (sym (kept-start (held (drop first s)) lent) ∙ d .same ∙ ap (λ (a : Answer (List ℤ)). keptAt done a out) ends ∙ kept-end done out)
+    sym (d .same ∙ ap (λ (a : Answer (List ℤ)). laidOver out done a) ends ∙ over-nil out done)
 
 module _ (s : List ℕ) (first : ℕ) (lent out : List ℤ) (at done : ℕ) (h : FrameHeader) (d : Decoded s first lent out at done) (here : HereOn s at h (length out - done)) where
   f : List ℤ
   f = frameSamples (frameAt (drop at s))
 
-  next : List ℤ
-  next = take done out ++ (f ++ drop (done + countOf h) out)
+  there : done + length f ≤ length out
+  unfolding f
+  there = omega (arith, here .counted, here .fits, d .stored)
 
-  next-long : length next ≡ length out
-  unfolding f next
-  next-long =
-      let tail = length-drop (done + countOf h) out in
-      let front = length-take-le done out (d .stored) in
-      rw (length-append, length-append) (omega (arith, here .counted, here .fits, d .stored))
+  next-long : length (laidOver out done (good f)) ≡ length out
+  next-long = length-over out done f there
 
   pub decoded-more : (after : List ℤ) (len count : ℕ) → len ≡ lengthOf h → count ≡ countOf h
-      → after ≡ take done out ++ (frameSamples (frameAt (drop at s)) ++ drop (done + countOf h) out)
+      → after ≡ laidOver out done (good (frameSamples (frameAt (drop at s))))
       → Decoded s first lent after (at + len) (done + count)
-  unfolding f next
+  unfolding f
   decoded-more after len count isLen isCount isAfter =
       rw (isLen, isCount, isAfter) (record {
         within = here .whole;
         stored = omega (arith, next-long, here .fits, d .stored);
         long = next-long ∙ d .long;
         room = rw (next-long, sub-add-eq) (here .rest);
-        same = d .same ∙ ap (λ (a : Answer (List ℤ)). keptAt done a out) (here .same) ∙ keep-on out f done (countOf h) (here .counted) (omega (arith, here .fits, d .stored)) (held (drop (at + lengthOf h) s)) _ (here .rest);
+        same = d .same ∙ ap (λ (a : Answer (List ℤ)). laidOver out done a) (here .same) ∙ keep-on out f done (countOf h) (here .counted) (omega (arith, here .fits, d .stored)) (held (drop (at + lengthOf h) s)) _ (here .rest);
       })

@@ -1,9 +1,9 @@
--- Frames that a survey has passed, and what decoding them leaves in lent memory. Assumes nothing.
-use Prim.Native.Nat.{ℕ, _+_, _≤_}
-use mathlib.Core.List.{List, [], _∷_, _++_}
+-- Frames that a survey has passed. Assumes nothing.
+use Prim.Native.Nat.{ℕ, _≤_}
+use mathlib.Core.List.{List, [], _∷_}
 use lib.Dec.{leb}
 use lib.IntN.{ℤ}
-use lib.ListN.{length, take, drop}
+use lib.ListN.{length}
 use Rattle.refusal.specs.Rules.{Answer, Rule, _gives_, good, refused, _then_}
 use Rattle.format.specs.Header.{headerAt}
 use Rattle.file.specs.Walk.{WalkRules, samplesOf, walkOf}
@@ -23,8 +23,3 @@ held b = walkOf heldFrames b then λ w. good (samplesOf (w .frames))
 abbrev pub HasRoom : Answer (List ℤ) → ℕ → Type 0
 HasRoom (refused n) room = ⊥
 HasRoom (good xs) room = length xs ≤ room
-
--- out with the samples from the index i on
-abbrev pub keptAt : ℕ → Answer (List ℤ) → List ℤ → List ℤ
-keptAt i (refused n) out = out
-keptAt i (good xs) out = take i out ++ (xs ++ drop (i + length xs) out)

@@ -1,15 +1,15 @@
 // Decoding frames that a survey has passed: there is nothing left to refuse.
 ghost use mathlib.Core.Path.{_≡_};
-ghost use mathlib.Core.List.{_++_};
 ghost use Prim.Native.Nat.{_+_, _*_, _≤_};
-ghost use lib.ListN.{length, take, drop};
+ghost use lib.ListN.{length, drop};
 ghost use Rattle.scale.specs.Tables.{dequantTab};
 ghost use Rattle.format.specs.Format.{maxChannels};
 ghost use Rattle.format.specs.Header.{headerAt};
 ghost use Rattle.format.specs.Part.{lengthOf};
 ghost use Rattle.file.specs.Frame.{frameSamples};
 ghost use Rattle.file.specs.Walk.{frameAt};
-ghost use Rattle.whole.specs.Told.{kept};
+ghost use Rattle.refusal.specs.Rules.{good};
+ghost use Rattle.refusal.specs.Lent.{laidOver};
 ghost use Rattle.whole.specs.Parts.{HasRoom, held};
 use format::frame::FrameHeader;
 use format::frame::QOA_HEADER_SIZE;
@@ -28,7 +28,7 @@ fn decode_frame(
     requires table { ⌜ now tab ≡ dequantTab ⌝ }
     requires frame { ⌜ (h ≡ headerAt (now bytes) at) × (h .channels ≤ maxChannels) × (at + lengthOf h ≤ length (now bytes)) ⌝ }
     requires room { ⌜ start + h .samples * h .channels ≤ length (now out) ⌝ }
-    ensures { λ r. ⌜ now (out .exit) ≡ take start (now (out .entry)) ++ (frameSamples (frameAt (drop at (now (bytes .entry)))) ++ drop (start + h .samples * h .channels) (now (out .entry))) ⌝ }
+    ensures { λ r. ⌜ now (out .exit) ≡ laidOver (now (out .entry)) start (good (frameSamples (frameAt (drop at (now (bytes .entry)))))) ⌝ }
 {
     let channels = h.channels as usize;
     let samples = h.samples as usize;
@@ -41,7 +41,7 @@ fn decode_frame(
 // All frames from a place on.
 pub fn decode_held(bytes: &[u8], first: usize, out: &mut [i16])
     requires { ⌜ (first ≤ length (now bytes)) × HasRoom (held (drop first (now bytes))) (length (now out)) ⌝ }
-    ensures { λ r. ⌜ now (out .exit) ≡ kept (held (drop first (now (bytes .entry)))) (now (out .entry)) ⌝ }
+    ensures { λ r. ⌜ now (out .exit) ≡ laidOver (now (out .entry)) 0 (held (drop first (now (bytes .entry)))) ⌝ }
 {
     let tab = scale::dequant_tab();
     let mut at = first;

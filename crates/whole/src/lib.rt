@@ -12,7 +12,8 @@ ghost use Rattle.format.specs.Format.{mostBytes};
 ghost use Rattle.file.specs.Whole.{audioIn, decode};
 ghost use Rattle.file.specs.Streaming.{streamed};
 ghost use Rattle.refusal.specs.Refusals.{toldCount, toldSummary};
-ghost use Rattle.whole.specs.Told.{countIn, heardIn, kept, summaryIn};
+ghost use Rattle.refusal.specs.Lent.{laidOver};
+ghost use Rattle.whole.specs.Told.{countIn, heardIn, summaryIn};
 ghost use Rattle.survey.specs.Parts.{audioAfter};
 use format::frame::QOA_HEADER_SIZE;
 use format::frame::QOA_MOST_BYTES;
@@ -65,7 +66,7 @@ pub fn decode_need(bytes: &[u8]) -> SummaryAnswer
 // A whole file into lent memory, of which nothing past the count is touched, and nothing at all on a refusal.
 pub fn decode_all(bytes: &[u8], out: &mut [i16]) -> SummaryAnswer
     ensures answer { λ r. ⌜ toldSummary r ≡ summaryIn (decode (length (now (out .entry))) (now (bytes .entry))) ⌝ }
-    ensures samples { λ r. ⌜ now (out .exit) ≡ kept (heardIn (decode (length (now (out .entry))) (now (bytes .entry)))) (now (out .entry)) ⌝ }
+    ensures samples { λ r. ⌜ now (out .exit) ≡ laidOver (now (out .entry)) 0 (heardIn (decode (length (now (out .entry))) (now (bytes .entry)))) ⌝ }
 {
     match decode_need(bytes) {
         SummaryAnswer::Refused(r) => SummaryAnswer::Refused(r),
@@ -82,7 +83,7 @@ pub fn decode_all(bytes: &[u8], out: &mut [i16]) -> SummaryAnswer
 // Whole frames one after another, of any channels and rates, into lent memory. It keeps no state.
 pub fn decode_frames(bytes: &[u8], out: &mut [i16]) -> CountAnswer
     ensures answer { λ r. ⌜ toldCount r ≡ countIn (streamed (length (now (out .entry))) (now (bytes .entry))) ⌝ }
-    ensures samples { λ r. ⌜ now (out .exit) ≡ kept (streamed (length (now (out .entry))) (now (bytes .entry))) (now (out .entry)) ⌝ }
+    ensures samples { λ r. ⌜ now (out .exit) ≡ laidOver (now (out .entry)) 0 (streamed (length (now (out .entry))) (now (bytes .entry))) ⌝ }
 {
     match walk_frames(bytes, 0, Kind::Any, out.len()) {
         CountAnswer::Refused(r) => CountAnswer::Refused(r),

@@ -16,10 +16,12 @@ use Rattle.lms.specs.declared.QoaLms.{QoaLms}
 use Rattle.format.specs.Predictor.{lmsOf, noLms}
 use Rattle.search.specs.Search.{encodedSlice, strided}
 use Rattle.search.specs.declared.Encoded.{Encoded}
-use Rattle.body.specs.Laid.{laid, overlaid}
+use Rattle.refusal.specs.Rules.{good}
+use Rattle.refusal.specs.Lent.{laidOver}
+use Rattle.body.specs.Laid.{laid}
 use Rattle.body.proofs.Channels.{last-inside}
 use Rattle.body.proofs.Laids.{length-blocks, next-block}
-use Rattle.body.proofs.Overlays.{over-nil, over-put}
+use Rattle.refusal.proofs.Lents.{over-nil, over-put}
 use Rattle.body.proofs.put_group.Statement.{statement}
 use Rattle.body.proofs.put_group.Tie as tie
 
@@ -31,7 +33,7 @@ abbrev Inv-loop : tie.InvT-loop
 Inv-loop tab quick reciprocals coding channels samples start count out₀ at next₀ j₀ out next j =
     (j ≤ channels)
     × (next ≡ written (λ k. found next₀ samples start count channels k .lms) next₀ 0 1 j)
-    × (out ≡ overlaid out₀ at (laid j (λ k. bytesOf 8 (found next₀ samples start count channels k .word))))
+    × (out ≡ laidOver out₀ at (good (laid j (λ k. bytesOf 8 (found next₀ samples start count channels k .word)))))
 
 abbrev μ-loop : tie.MeasureT-loop
 μ-loop tab quick reciprocals coding channels samples start count out₀ at next₀ j₀ out next j = channels - j
@@ -115,7 +117,7 @@ bytes-again : (c : tie.After-slice-known2 Inv-loop μ-loop) →
     let l = c .before .before .before .before .before .before .before .before in
     let args = l .before .before .args in
     c .before .before .write-u64 .last .0
-    ≡ overlaid (args .out .now) (args .at) (laid (l .loop .j + 1) (λ k. bytesOf 8 (found (args .states) (args .samples .now) (args .start) (args .count) (args .channels) k .word)))
+    ≡ laidOver (args .out .now) (args .at) (good (laid (l .loop .j + 1) (λ k. bytesOf 8 (found (args .states) (args .samples .now) (args .start) (args .count) (args .channels) k .word))))
 bytes-again c =
     let got = c .before .before .before .before .before in
     let l = got .before .before .before in

@@ -18,10 +18,12 @@ use Rattle.format.specs.Predictor.{lmsOf, noLms}
 use Rattle.search.specs.Search.{strided}
 use Rattle.search.proofs.Fitting.{strided-length}
 use Rattle.body.specs.Channel.{lmsBefore, sliceWord}
-use Rattle.body.specs.Laid.{laid, overlaid}
+use Rattle.refusal.specs.Rules.{good}
+use Rattle.refusal.specs.Lent.{laidOver}
+use Rattle.body.specs.Laid.{laid}
 use Rattle.body.proofs.Channels.{before-within, group-inside, next-lms, next-word, words-before, words-inside}
 use Rattle.body.proofs.Laids.{laid-ext, length-blocks, length-words, next-block, written-here}
-use Rattle.body.proofs.Overlays.{over-nil}
+use Rattle.refusal.proofs.Lents.{over-nil}
 use Rattle.body.proofs.put_groups.Statement.{statement}
 use Rattle.body.proofs.put_groups.Tie as tie
 
@@ -34,7 +36,7 @@ Inv-loop channels samples n out₀ at tab coding quick reciprocals slices next�
     (g ≤ slices)
     × (length next ≡ maxChannels)
     × ((k : ℕ) → k < channels → lmsOf next k ≡ lmsBefore (lmsOf next₀ k) (strided n samples k channels) g)
-    × (out ≡ overlaid out₀ at (laid g (group next₀ samples n channels)))
+    × (out ≡ laidOver out₀ at (good (laid g (group next₀ samples n channels))))
 
 abbrev μ-loop : tie.MeasureT-loop
 μ-loop channels samples n out₀ at tab coding quick reciprocals slices next₀ g₀ out next g = slices - g
@@ -175,7 +177,7 @@ states-again c k h =
 bytes-again : (c : tie.After-put-group Inv-loop μ-loop) →
     let l = c .before .before .before .before .before .before .before .before in
     let args = startOf (l .before) .args in
-    c .put-group .last .1 .1 .1 .1 .1 .1 .1 .1 .1 .0 ≡ overlaid (args .out .now) (args .at) (laid (l .loop .g + 1) (group (args .states) (args .samples .now) (args .n) (args .channels)))
+    c .put-group .last .1 .1 .1 .1 .1 .1 .1 .1 .1 .0 ≡ laidOver (args .out .now) (args .at) (good (laid (l .loop .g + 1) (group (args .states) (args .samples .now) (args .n) (args .channels))))
 bytes-again c =
     let cut = c .before .before .before .before .before .before in
     let turn = cut .before in

@@ -7,9 +7,11 @@ use lib.ListN.{length}
 use mathlib.Core.List.{List}
 use Rattle.lms.specs.declared.QoaLms.{QoaLms}
 use Rattle.format.specs.Predictor.{lmsOf}
-use Rattle.body.specs.Laid.{laid, lmsBytes, overlaid}
+use Rattle.refusal.specs.Rules.{good}
+use Rattle.refusal.specs.Lent.{laidOver}
+use Rattle.body.specs.Laid.{laid, lmsBytes}
 use Rattle.body.proofs.Laids.{length-blocks, length-lms, next-block, over-lms}
-use Rattle.body.proofs.Overlays.{over-nil}
+use Rattle.refusal.proofs.Lents.{over-nil}
 use Rattle.body.proofs.put_states.Statement.{statement}
 use Rattle.body.proofs.put_states.Tie as tie
 
@@ -18,7 +20,7 @@ abbrev stored : List QoaLms → ℕ → List ℕ
 stored states k = lmsBytes (lmsOf states k)
 
 abbrev Inv-loop : tie.InvT-loop
-Inv-loop channels out₀ at states j₀ out j = (j ≤ channels) × (out ≡ overlaid out₀ at (laid j (stored states)))
+Inv-loop channels out₀ at states j₀ out j = (j ≤ channels) × (out ≡ laidOver out₀ at (good (laid j (stored states))))
 
 abbrev μ-loop : tie.MeasureT-loop
 μ-loop channels out₀ at states j₀ out j = channels - j

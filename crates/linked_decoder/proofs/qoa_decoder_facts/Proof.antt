@@ -1,12 +1,12 @@
 -- `linked_decoder::qoa_decoder_facts` meets its contract. Assumes nothing.
 use borrow.Author.Needs.{needs}
-use native.Mathlib.Omega.{arith}
-use mathlib.Core.Path.{_≡_, refl, sym, ap, _∙_}
+use mathlib.Core.Path.{refl, sym, ap, _∙_}
 use mir.Syntax.{w64}
 use Rattle.wrap.proofs.Integers.{returned}
 use Rattle.format.specs.declared.facts.Facts.{Facts}
 use Rattle.state.specs.Facts.{toldFacts}
-use Rattle.encoder.specs.Calls.{onto}
+use Rattle.refusal.specs.Rules.{good}
+use Rattle.refusal.specs.Lent.{laidOver}
 use Rattle.linked_decoder.specs.Linked.{threeFacts}
 use Rattle.linked_decoder.proofs.Linking.{facts-bad, facts-done, facts-good, facts-refused, facts-short}
 use Rattle.linked_decoder.proofs.qoa_decoder_facts.Statement.{statement}
@@ -50,7 +50,7 @@ returns-3 c =
     let args = c .before .before .before .before .before .before .before .before .before .before .before .before .args in
     let told = sym (ap toldFacts (c .before .before .before .before .before .before .known .given .1)) ∙ c .before .before .before .before .before .before .before .before .facts-in .ensures in
     let found = facts-good _ _ (args .facts .now) _ told (c .before .before .before .before .if1 .left) in
-    facts-done _ _ (args .facts .now) _ _ (found .0) refl (c .before .before .put-facts .ensures ∙ ap (λ (f : Facts). onto (args .facts .now) (threeFacts f)) (sym (found .1)))
+    facts-done _ _ (args .facts .now) _ _ (found .0) refl (c .before .before .put-facts .ensures ∙ ap (λ (f : Facts). laidOver (args .facts .now) 0 (good (threeFacts f))) (sym (found .1)))
 
 pub qoa-decoder-facts-spec : {M : Type 1} → statement M
 qoa-decoder-facts-spec =

@@ -3,15 +3,15 @@ use borrow.Author.Needs.{needs}
 use borrow.Author.Tests.{not-false, not-true}
 use native.Mathlib.Omega.{arith}
 use mathlib.Core.Bool.{true}
-use mathlib.Core.Path.{_≡_, refl, sym, ap, _∙_}
+use mathlib.Core.Path.{_≡_, sym, ap, _∙_}
 use lib.IntN.{pos}
 use lib.ListN.{length}
 use mir.Syntax.{w64}
-use Prim.Native.Nat.{ℕ}
 use Rattle.wrap.proofs.Integers.{returned}
 use Rattle.refusal.proofs.Rules.{after-refused}
 use Rattle.state.specs.View.{View, view}
-use Rattle.encoder.specs.Calls.{onto}
+use Rattle.refusal.specs.Rules.{good}
+use Rattle.refusal.specs.Lent.{laidOver}
 use Rattle.block.specs.DecoderBlock.{decoderBytes, decoderIn}
 use Rattle.block.specs.Parts.{readableDecoder}
 use Rattle.block.proofs.Readable.{decoder-facts}
@@ -38,7 +38,7 @@ same-length : tie.Need-same-length
 same-length c = search needs
 
 returns : tie.Need-returns
-unfolding intoRules
+unfolding intoRules laidOver
 returns c =
     let args = c .before .before .before .before .before .before .before .args in
     let none = unread (args .state .now) (length (args .bytes .now)) _ (sym (c .before .before .before .read-decoder .ensures .readable) ∙ not-true _ (c .before .if1 .taken)) in
@@ -92,7 +92,7 @@ returns-3 c =
     let same = read-rules (args .state .now) _ (yes (c .before .before .before .before .before .before .before .before .before .before .before .before .before)) in
     record {
       call = rw (← viewed (c .before .before .before .before .before .before .before .before .before .before .before .before .before)) (linked-done (args .state .now) _ _ _ _ _ (same ∙ found .0) (returned w64 (c .count .result) (c .count .ok) (c .count .ensures ∙ ap pos (sym (found .1))))
-          ((c .before .before .before .write-decoder) .ensures ∙ ap (λ (v : View). onto (args .state .now) (decoderBytes v)) (leaves _ _ _ _ (found .0) (done .ensures .left))));
+          ((c .before .before .before .write-decoder) .ensures ∙ ap (λ (v : View). laidOver (args .state .now) 0 (good (decoderBytes v))) (leaves _ _ _ _ (found .0) (done .ensures .left))));
       samples = rw (← viewed (c .before .before .before .before .before .before .before .before .before .before .before .before .before)) (rw same (done .ensures .stored));
     }
 

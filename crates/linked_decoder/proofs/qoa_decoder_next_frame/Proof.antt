@@ -3,15 +3,15 @@ use borrow.Author.Needs.{needs}
 use borrow.Author.Tests.{not-false, not-true}
 use native.Mathlib.Omega.{arith}
 use mathlib.Core.Bool.{true}
-use mathlib.Core.Path.{_≡_, refl, sym, ap, _∙_}
+use mathlib.Core.Path.{_≡_, sym, ap, _∙_}
 use lib.IntN.{pos}
 use lib.ListN.{length}
 use mir.Syntax.{w64}
-use Prim.Native.Nat.{ℕ}
 use Rattle.wrap.proofs.Integers.{returned}
 use Rattle.refusal.proofs.Rules.{after-refused}
 use Rattle.state.specs.View.{View, view}
-use Rattle.encoder.specs.Calls.{onto}
+use Rattle.refusal.specs.Rules.{good}
+use Rattle.refusal.specs.Lent.{laidOver}
 use Rattle.block.specs.DecoderBlock.{decoderBytes, decoderIn}
 use Rattle.block.specs.Parts.{readableDecoder}
 use Rattle.block.proofs.Readable.{decoder-facts}
@@ -90,7 +90,7 @@ returns-3 c =
     let found = accepted _ _ _ (sym (ap toldFrame (c .before .before .before .before .enum-told .given .1)) ∙ done .ensures .told) in
     rw (← viewed (c .before .before .before .before .before .before .before .before .before)) (
     linked-done (args .state .now) _ _ _ _ _ (read-rules (args .state .now) _ (yes (c .before .before .before .before .before .before .before .before .before)) ∙ found .0) (ap (λ (f : Found). pos (foundCode f)) (sym (found .1)))
-    ((c .before .before .write-decoder) .ensures ∙ ap (λ (v : View). onto (args .state .now) (decoderBytes v)) (leaves _ _ _ _ (found .0) (done .ensures .left)))
+    ((c .before .before .write-decoder) .ensures ∙ ap (λ (v : View). laidOver (args .state .now) 0 (good (decoderBytes v))) (leaves _ _ _ _ (found .0) (done .ensures .left)))
     )
 
 same-length-4 : tie.Need-same-length-4
@@ -104,7 +104,7 @@ returns-4 c =
     let code = c .count .ensures ∙ ap pos (c .before .frame-code .ensures .0) ∙ ap (λ (f : Found). pos (foundCode f)) (sym (found .1)) in
     rw (← viewed (c .before .before .before .before .before .before .before .before .before .before .before .before)) (
     linked-done (args .state .now) _ _ _ _ _ (read-rules (args .state .now) _ (yes (c .before .before .before .before .before .before .before .before .before .before .before .before)) ∙ found .0) (returned w64 (c .count .result) (c .count .ok) code)
-    ((c .before .before .before .before .write-decoder2) .ensures ∙ ap (λ (v : View). onto (args .state .now) (decoderBytes v)) (leaves _ _ _ _ (found .0) (done .ensures .left)))
+    ((c .before .before .before .before .write-decoder2) .ensures ∙ ap (λ (v : View). laidOver (args .state .now) 0 (good (decoderBytes v))) (leaves _ _ _ _ (found .0) (done .ensures .left)))
     )
 
 pub qoa-decoder-next-frame-spec : {M : Type 1} → statement M

@@ -11,13 +11,13 @@ use Prim.Native.Nat.{ℕ}
 use Rattle.wrap.proofs.Integers.{returned}
 use Rattle.refusal.proofs.Rules.{after-refused}
 use Rattle.state.specs.View.{View, view}
-use Rattle.encoder.specs.Calls.{onto}
+use Rattle.refusal.specs.Rules.{good}
+use Rattle.refusal.specs.Lent.{laidOver}
 use Rattle.block.specs.DecoderBlock.{decoderBytes, decoderIn}
 use Rattle.block.specs.Parts.{readableDecoder}
 use Rattle.block.proofs.Readable.{decoder-facts}
 use Prim.Native.Nat.{_+_, _^_}
 use mir.Syntax.{w16}
-use lib.IntN.{ℤ}
 use Rattle.wrap.specs.Wrap.{low16}
 use Rattle.decoder.specs.Items.{Item, itemRules, toldItem}
 use Rattle.linked_decoder.specs.Numbers.{itemCode}
@@ -115,7 +115,7 @@ returns-3 c =
     let found = accepted _ _ _ (sym (ap toldItem (c .before .before .before .before .enum-told .given .1)) ∙ done .ensures .told) in
     rw (← viewed (c .before .before .before .before .before .before .before .before .before)) (
     linked-done (args .state .now) _ _ _ _ _ (read-rules (args .state .now) _ (yes (c .before .before .before .before .before .before .before .before .before)) ∙ found .0) (ap (λ (x : Item). pos (itemCode x)) (sym (found .1)))
-    ((c .before .before .write-decoder) .ensures ∙ ap (λ (v : View). onto (args .state .now) (decoderBytes v)) (leaves _ _ _ _ (found .0) (done .ensures .left)))
+    ((c .before .before .write-decoder) .ensures ∙ ap (λ (v : View). laidOver (args .state .now) 0 (good (decoderBytes v))) (leaves _ _ _ _ (found .0) (done .ensures .left)))
     )
 
 same-length-4 : tie.Need-same-length-4
@@ -129,7 +129,7 @@ returns-4 c =
     let code = c .count .ensures ∙ ap (λ (n : ℕ). pos (2 ^ 60 + n)) (c .before .frame-code .ensures .0) ∙ ap (λ (x : Item). pos (itemCode x)) (sym (found .1)) in
     rw (← viewed (c .before .before .before .before .before .before .before .before .before .before .before .before)) (
     linked-done (args .state .now) _ _ _ _ _ (read-rules (args .state .now) _ (yes (c .before .before .before .before .before .before .before .before .before .before .before .before)) ∙ found .0) (returned w64 (c .count .result) (c .count .ok) code)
-    ((c .before .before .before .before .write-decoder2) .ensures ∙ ap (λ (v : View). onto (args .state .now) (decoderBytes v)) (leaves _ _ _ _ (found .0) (done .ensures .left)))
+    ((c .before .before .before .before .write-decoder2) .ensures ∙ ap (λ (v : View). laidOver (args .state .now) 0 (good (decoderBytes v))) (leaves _ _ _ _ (found .0) (done .ensures .left)))
     )
 
 same-length-5 : tie.Need-same-length-5
@@ -143,7 +143,7 @@ returns-5 c =
     let code = c .count2 .ensures ∙ ap (λ (n : ℕ). pos (2 ^ 61 + n)) (c .before .pattern16 .ensures ∙ ap low16 (returned w16 _ (c .before .before .before .before .before .before .known-told3 .given .0 .1) refl)) ∙ ap (λ (x : Item). pos (itemCode x)) (sym (found .1)) in
     rw (← viewed (c .before .before .before .before .before .before .before .before .before .before .before .before)) (
     linked-done (args .state .now) _ _ _ _ _ (read-rules (args .state .now) _ (yes (c .before .before .before .before .before .before .before .before .before .before .before .before)) ∙ found .0) (returned w64 (c .count2 .result) (c .count2 .ok) code)
-    ((c .before .before .before .before .write-decoder3) .ensures ∙ ap (λ (v : View). onto (args .state .now) (decoderBytes v)) (leaves _ _ _ _ (found .0) (done .ensures .left)))
+    ((c .before .before .before .before .write-decoder3) .ensures ∙ ap (λ (v : View). laidOver (args .state .now) 0 (good (decoderBytes v))) (leaves _ _ _ _ (found .0) (done .ensures .left)))
     )
 
 pub qoa-decoder-next-item-spec : {M : Type 1} → statement M

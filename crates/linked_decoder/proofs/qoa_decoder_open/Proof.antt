@@ -1,12 +1,12 @@
 -- `linked_decoder::qoa_decoder_open` meets its contract. Assumes nothing.
 use borrow.Author.Needs.{needs}
-use native.Mathlib.Omega.{arith}
-use mathlib.Core.Path.{_≡_, refl, sym, ap, _∙_}
+use mathlib.Core.Path.{refl, sym, ap, _∙_}
 use mir.Syntax.{w64}
 use Rattle.wrap.proofs.Integers.{returned}
 use Rattle.refusal.specs.Refusals.{toldChecked}
 use Rattle.state.specs.View.{View}
-use Rattle.encoder.specs.Calls.{onto}
+use Rattle.refusal.specs.Rules.{good}
+use Rattle.refusal.specs.Lent.{laidOver}
 use Rattle.block.specs.DecoderBlock.{decoderBytes}
 use Rattle.linked_decoder.proofs.Linking.{open-bad, open-done, open-good, open-refused, open-short, opened}
 use Rattle.linked_decoder.proofs.qoa_decoder_open.Statement.{statement}
@@ -53,7 +53,7 @@ returns-3 c =
     let made = c .before .before .before .before .before .before .before .before .open-decoder in
     let quiet = sym (made .ensures .0) ∙ ap toldChecked (c .before .before .before .before .before .before .enum-told .given .1) in
     open-done (args .bytes .now) (args .state .now) _ _ (open-good _ (args .state .now) quiet (c .before .before .before .before .before .if1 .left)) refl
-    (c .before .before .write-decoder .ensures ∙ ap (λ (v : View). onto (args .state .now) (decoderBytes v)) (opened _ _ _ quiet (made .ensures .1)))
+    (c .before .before .write-decoder .ensures ∙ ap (λ (v : View). laidOver (args .state .now) 0 (good (decoderBytes v))) (opened _ _ _ quiet (made .ensures .1)))
 
 pub qoa-decoder-open-spec : {M : Type 1} → statement M
 qoa-decoder-open-spec =

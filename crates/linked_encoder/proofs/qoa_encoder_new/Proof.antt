@@ -1,10 +1,10 @@
 -- `linked_encoder::qoa_encoder_new` meets its contract. Assumes nothing.
 use borrow.Author.Needs.{needs}
-use native.Mathlib.Omega.{arith}
-use mathlib.Core.Path.{_≡_, refl, sym, ap, _∙_}
+use mathlib.Core.Path.{refl, ap, _∙_}
 use mir.Syntax.{w64}
 use Rattle.wrap.proofs.Integers.{returned}
-use Rattle.encoder.specs.Calls.{onto}
+use Rattle.refusal.specs.Rules.{good}
+use Rattle.refusal.specs.Lent.{laidOver}
 use Rattle.encoder.specs.Encoder.{EncoderView}
 use Rattle.encoder.proofs.Done.{was-created, was-refused}
 use Rattle.block.specs.EncoderBlock.{encoderBytes}
@@ -54,7 +54,7 @@ returns-3 c =
     let made = c .before .before .before .before .before .before .before .before .new-encoder in
     let created = was-created _ _ _ (made .result) (made .ensures) (ap toldChecked (c .before .before .before .before .before .before .enum-told .given .1)) in
     new-done _ _ _ (args .state .now) _ _ (new-good _ _ _ (args .state .now) (created .0) (c .before .before .before .before .before .if1 .left)) refl
-    (c .before .before .write-encoder .ensures ∙ ap (λ (v : EncoderView). onto (args .state .now) (encoderBytes v)) (created .1))
+    (c .before .before .write-encoder .ensures ∙ ap (λ (v : EncoderView). laidOver (args .state .now) 0 (good (encoderBytes v))) (created .1))
 
 pub qoa-encoder-new-spec : {M : Type 1} → statement M
 qoa-encoder-new-spec =

@@ -14,10 +14,13 @@ use Rattle.encoder.specs.Encoder.{encoderView}
 use Rattle.encoder.specs.Frame.{firstWide}
 use Rattle.oneshot.specs.OneShot.{Stop, stateBefore, bytesBefore, framesIn, framesOf, needOf, stopIn}
 use Rattle.encoder.specs.Head.{headBytes}
-use Rattle.encoder.specs.Calls.{Told, onto, refuses-14, wrote}
+use Rattle.refusal.specs.Rules.{good}
+use Rattle.refusal.specs.Lent.{laidOver}
+use Rattle.encoder.specs.Calls.{Told, refuses-14, wrote}
 use Rattle.encoder.specs.Parts.{toldWide}
 use Rattle.oneshot.proofs.Ends.{Shot, shot-done, shot-fits, shot-wide}
-use Rattle.oneshot.proofs.Files.{before-small, chunk-fits, chunk-over, chunk-room, chunk-starts, length-before, length-onto, onto-head, place-before, stop-here, stop-more, stop-stays, view-next, wide-now}
+use Rattle.refusal.proofs.Lents.{length-over, over-again}
+use Rattle.oneshot.proofs.Files.{before-small, chunk-fits, chunk-over, chunk-room, chunk-starts, length-before, place-before, stop-here, stop-more, stop-stays, view-next, wide-now}
 use Rattle.encoder.proofs.Heads.{length-head}
 use Rattle.oneshot.proofs.encode_frames.Statement.{statement}
 use Rattle.oneshot.proofs.encode_frames.Tie as tie
@@ -27,7 +30,7 @@ Inv-loop e samples out₀ channels frames state₀ f₀ out state f =
     (f ≤ frames)
     × (encoderView state ≡ stateBefore (encoderView e) samples f)
     × (stopIn (encoderView e) samples f ≡ none)
-    × (out ≡ onto out₀ (bytesBefore (encoderView e) samples f))
+    × (out ≡ laidOver out₀ 0 (good (bytesBefore (encoderView e) samples f)))
 
 abbrev μ-loop : tie.MeasureT-loop
 μ-loop e samples out₀ channels frames state₀ f₀ out state f = frames - f
@@ -57,7 +60,7 @@ within : (l : tie.At-loop Inv-loop μ-loop) → l .loop .f ≤ framesOf (encoder
 within l = omega (arith, counted l)
 
 -- `out` against the output that was lent
-memory : (l : tie.At-loop Inv-loop μ-loop) → l .loop .out ≡ onto (begun l .args .out .now) (bytesBefore (encoderView (begun l .args .e)) (begun l .args .samples .now) (l .loop .f))
+memory : (l : tie.At-loop Inv-loop μ-loop) → l .loop .out ≡ laidOver (begun l .args .out .now) 0 (good (bytesBefore (encoderView (begun l .args .e)) (begun l .args .samples .now) (l .loop .f)))
 unfolding encoderView
 memory l =
     let s = begun l in
@@ -67,14 +70,14 @@ memory l =
     let bytes = bytesBefore v (s .args .samples .now) (l .loop .f) in
     let long = length-before v (s .args .samples .now) (h .good-state .some-channels) (h .long) (l .loop .f) (within l) in
     l .loop .inv .3
-    ∙ ap (λ (o : List ℕ). onto o bytes) (l .before .before .before .before .before .before .put-head .ensures)
-    ∙ onto-head (s .args .out .now) head bytes (omega (arith, length-head (s .args .e .total), long))
+    ∙ ap (λ (o : List ℕ). laidOver o 0 (good bytes)) (l .before .before .before .before .before .before .put-head .ensures)
+    ∙ over-again (s .args .out .now) head bytes (omega (arith, length-head (s .args .e .total), long))
 
 long : (l : tie.At-loop Inv-loop μ-loop) → length (l .loop .out) ≡ length (begun l .args .out .now)
 long l =
     let s = begun l in
     let h = shot s in
-    ap length (memory l) ∙ length-onto (s .args .out .now) (bytesBefore (encoderView (s .args .e)) (s .args .samples .now) (l .loop .f)) (omega (arith, h .enough, before-small (encoderView (s .args .e)) (s .args .samples .now) (h .good-state .some-channels) (h .long) (l .loop .f) (within l)))
+    ap length (memory l) ∙ length-over (s .args .out .now) 0 (bytesBefore (encoderView (s .args .e)) (s .args .samples .now) (l .loop .f)) (omega (arith, h .enough, before-small (encoderView (s .args .e)) (s .args .samples .now) (h .good-state .some-channels) (h .long) (l .loop .f) (within l)))
 
 -- the first wide channel, as the definitions have it
 said : (c : tie.After-first-wide Inv-loop μ-loop) →
@@ -106,7 +109,7 @@ unfolding stateBefore bytesBefore stopIn encoderView
 loop-holds c =
     let put = c .before .before .before .before .before in
     let s = put .before .before .before in
-    (omega arith, refl, refl, rw (put .put-head .ensures) (sym (onto-head (s .args .out .now) (headBytes (s .args .e .total)) (headBytes (s .args .e .total)) (le-refl _))))
+    (omega arith, refl, refl, rw (put .put-head .ensures) (sym (over-again (s .args .out .now) (headBytes (s .args .e .total)) (headBytes (s .args .e .total)) (le-refl _))))
 
 first-wide-requires : tie.Need-first-wide-requires Inv-loop μ-loop
 first-wide-requires c κs = few (begun (c .before .before))
@@ -186,7 +189,7 @@ loop-again c =
     let below : f < framesOf v = omega (arith, counted l, turn .loop-test .taken) in
     let g = h .good-state in
     let head = headBytes (s .args .e .total) in
-    let started = ap length (l .before .before .before .before .before .before .put-head .ensures) ∙ length-onto (s .args .out .now) head (omega (arith, length-head (s .args .e .total), eight s)) in
+    let started = ap length (l .before .before .before .before .before .before .put-head .ensures) ∙ length-over (s .args .out .now) 0 head (omega (arith, length-head (s .args .e .total), eight s)) in
     let room = before-small v samples (g .some-channels) (h .long) f (within l) in (
       omega arith,
       rw add-one (put .put-chunk .ensures .0 ∙ view-next v samples (g .some-channels) (h .long) g (l .loop .state) f (l .loop .inv .1) below),
@@ -212,7 +215,7 @@ returns-2 c =
     let samples = s .args .samples .now in
     let done : l .loop .f ≡ framesOf v = omega (arith, counted l, c .before .before .loop-test .left) in
     shot-done _ _ _ _ _ (s .pre) (ap (stopIn v samples) (sym done) ∙ l .loop .inv .2) (ap {B = Told} wrote (c .file-need .ensures))
-    (memory l ∙ ap (λ (f : ℕ). onto (s .args .out .now) (bytesBefore v samples f)) done) (l .loop .inv .1 ∙ ap (stateBefore v samples) done)
+    (memory l ∙ ap (λ (f : ℕ). laidOver (s .args .out .now) 0 (good (bytesBefore v samples f))) done) (l .loop .inv .1 ∙ ap (stateBefore v samples) done)
 
 pub encode-frames-spec : {M : Type 1} → statement M
 encode-frames-spec =

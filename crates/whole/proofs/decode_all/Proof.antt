@@ -9,7 +9,8 @@ use lib.IntN.{ℤ}
 use lib.ListN.{length}
 use Rattle.refusal.specs.Rules.{Answer, good}
 use Rattle.file.specs.Whole.{Audio}
-use Rattle.whole.specs.Told.{heardIn, kept, summaryIn}
+use Rattle.refusal.specs.Lent.{laidOver}
+use Rattle.whole.specs.Told.{heardIn, summaryIn}
 use Rattle.refusal.specs.Refusals.{toldSummary}
 use Rattle.whole.proofs.Calls.{Needs, audio-held, enough-room, file-needs, file-refused, head-there, held-room, no-room}
 use Rattle.whole.proofs.decode_all.Statement.{statement}
@@ -36,11 +37,12 @@ enum-known-summary : tie.Need-enum-known-summary
 enum-known-summary c = search author.needs
 
 returns : tie.Need-returns
+unfolding laidOver
 returns c =
     let found = c .before .before .before in
     let need = c .before .before .before .before .before in
     let refusal = no-room (room need) (input need) _ (needs found) (omega arith) in
-    (sym (ap summaryIn refusal), sym (ap (λ (a : Answer Audio). kept (heardIn a) (now (need .before .before .args .out))) refusal))
+    (sym (ap summaryIn refusal), sym (ap (λ (a : Answer Audio). laidOver (now (need .before .before .args .out)) 0 (heardIn a)) refusal))
 
 decode-held-requires : tie.Need-decode-held-requires
 decode-held-requires c κs =
@@ -49,10 +51,11 @@ decode-held-requires c κs =
     (head-there (room need) (input need) _ (needs found), held-room (room need) (input need) _ (needs found) (omega arith))
 
 returns-2 : tie.Need-returns-2
+unfolding laidOver
 returns-2 c =
     let need = c .before .before .before in
     let refusal = file-refused (room need) (input need) _ (sym (need .decode-need .ensures) ∙ ap toldSummary (c .before .r .given .1)) in
-    (sym (ap summaryIn refusal), sym (ap (λ (a : Answer Audio). kept (heardIn a) (now (need .before .before .args .out))) refusal))
+    (sym (ap summaryIn refusal), sym (ap (λ (a : Answer Audio). laidOver (now (need .before .before .args .out)) 0 (heardIn a)) refusal))
 
 same-length : tie.Need-same-length
 same-length c = search author.needs
@@ -65,7 +68,7 @@ returns-3 c =
     let answer = enough-room (room need) (input need) _ all (omega arith) in
     let out = now (need .before .before .args .out) in (
       ap {B = Answer Summary} good (sym (all .same)) ∙ sym (ap summaryIn answer),
-      c .before .decode-held .ensures ∙ ap (λ (a : Answer (List ℤ)). kept a out) (audio-held (input need) (all .audio) (all .found) ∙ sym (ap heardIn answer)),
+      c .before .decode-held .ensures ∙ ap (λ (a : Answer (List ℤ)). laidOver out 0 a) (audio-held (input need) (all .audio) (all .found) ∙ sym (ap heardIn answer)),
     )
 
 pub decode-all-spec : {M : Type 1} → statement M

@@ -10,7 +10,8 @@ use lib.ListN.{length}
 use Rattle.refusal.specs.Rules.{Answer}
 use Rattle.file.specs.Streaming.{streamed}
 use Rattle.refusal.specs.Refusals.{toldCount}
-use Rattle.whole.specs.Told.{countIn, kept}
+use Rattle.refusal.specs.Lent.{laidOver}
+use Rattle.whole.specs.Told.{countIn}
 use Rattle.whole.proofs.Calls.{frames-counted, frames-good, frames-refused, Streams}
 use Rattle.whole.proofs.decode_frames.Statement.{statement}
 use Rattle.whole.proofs.decode_frames.Tie as tie
@@ -44,10 +45,11 @@ decode-held-requires c κs =
     (omega arith, rw (all .are-held) (all .enough))
 
 returns : tie.Need-returns
+unfolding laidOver
 returns c =
     let walk = c .before .before .before in
     let refusal = frames-refused (room walk) (input walk) _ (sym (count walk) ∙ ap toldCount (c .before .r .given .1)) in
-    (sym (ap countIn refusal), sym (ap (λ (a : Answer (List ℤ)). kept a (now (walk .before .before .args .out))) refusal))
+    (sym (ap countIn refusal), sym (ap (λ (a : Answer (List ℤ)). laidOver (now (walk .before .before .args .out)) 0 a) refusal))
 
 same-length : tie.Need-same-length
 same-length c = search needs
@@ -57,7 +59,7 @@ returns-2 c =
     let walk = c .before .before .before .before .before .before in
     let all = found (c .before .before .before .before) in (
       sym (ap toldCount (c .before .before .before .before .count .given .1)) ∙ count walk,
-      c .before .decode-held .ensures ∙ ap (λ (a : Answer (List ℤ)). kept a (now (walk .before .before .args .out))) (all .are-held ∙ sym (all .answer)),
+      c .before .decode-held .ensures ∙ ap (λ (a : Answer (List ℤ)). laidOver (now (walk .before .before .args .out)) 0 a) (all .are-held ∙ sym (all .answer)),
     )
 
 pub decode-frames-spec : {M : Type 1} → statement M

@@ -1,7 +1,8 @@
 -- `block::decoding::write_mode` meets its contract. Assumes nothing.
 use borrow.Author.Needs.{needs}
 use mathlib.Core.Path.{ap, sym, _∙_}
-use Rattle.body.specs.Laid.{overlaid}
+use Rattle.refusal.specs.Rules.{good}
+use Rattle.refusal.specs.Lent.{laidOver}
 use Rattle.state.specs.declared.ProcessingMode.{ProcessingMode}
 use Rattle.block.specs.DecoderBlock.{modeBytes}
 use Rattle.block.proofs.decoding.write_mode.Statement.{statement}
@@ -26,7 +27,7 @@ returns : tie.Need-returns
 unfolding modeBytes
 returns c =
     let s = c .before .before .before .before .before .before .before in
-    c .before .before .write-fixed .ensures ∙ ap (λ (m : ProcessingMode). overlaid (s .args .block .now) 0 (modeBytes m)) (sym (c .before .before .before .before .enum-told .given .1))
+    c .before .before .write-fixed .ensures ∙ ap (λ (m : ProcessingMode). laidOver (s .args .block .now) 0 (good (modeBytes m))) (sym (c .before .before .before .before .enum-told .given .1))
 
 same-length-2 : tie.Need-same-length-2
 same-length-2 c = search needs
@@ -35,7 +36,7 @@ returns-2 : tie.Need-returns-2
 unfolding modeBytes
 returns-2 c =
     let s = c .before .before .before .before .before .before .before .before in
-    c .before .before .write-fixed2 .ensures ∙ ap (λ (m : ProcessingMode). overlaid (s .args .block .now) 0 (modeBytes m)) (sym (c .before .before .before .before .before .mode .given .1))
+    c .before .before .write-fixed2 .ensures ∙ ap (λ (m : ProcessingMode). laidOver (s .args .block .now) 0 (good (modeBytes m))) (sym (c .before .before .before .before .before .mode .given .1))
 
 pub write-mode-spec : {M : Type 1} → statement M
 write-mode-spec =

@@ -13,9 +13,10 @@ use Rattle.word.specs.Bytes.{bytesOf}
 use Rattle.word.proofs.BytesLaws.{length-bytes}
 use Rattle.format.specs.Format.{maxChannels, pendingLen}
 use Rattle.body.specs.Laid.{laid}
-use Rattle.body.specs.Laid.{overlaid}
+use Rattle.refusal.specs.Rules.{good}
+use Rattle.refusal.specs.Lent.{laidOver}
 use Rattle.body.proofs.Laids.{length-blocks, next-block}
-use Rattle.body.proofs.Overlays.{over-nil, over-put}
+use Rattle.refusal.proofs.Lents.{over-nil, over-put}
 use Rattle.block.proofs.Holding.{sampleHeld}
 use Rattle.block.proofs.decoding.write_pending.Statement.{statement}
 use Rattle.block.proofs.decoding.write_pending.Tie as tie
@@ -25,7 +26,7 @@ abbrev stored : List ℤ → ℕ → ℕ → ℕ → List ℕ
 stored pending next end k = bytesOf 2 (low16 (sampleHeld pending next end k))
 
 abbrev Inv-loop : tie.InvT-loop
-Inv-loop block₀ pending next end i₀ block i = (i ≤ pendingLen) × (block ≡ overlaid block₀ (32 + 32 * maxChannels) (laid i (stored pending next end)))
+Inv-loop block₀ pending next end i₀ block i = (i ≤ pendingLen) × (block ≡ laidOver block₀ (32 + 32 * maxChannels) (good (laid i (stored pending next end))))
 
 abbrev μ-loop : tie.MeasureT-loop
 μ-loop block₀ pending next end i₀ block i = pendingLen - i

@@ -2,7 +2,7 @@
 use borrow.Author.Needs.{needs}
 use native.Mathlib.Omega.{arith}
 use Prim.Native.Nat.{_+_}
-use Rattle.body.proofs.Overlays.{over-then}
+use Rattle.refusal.proofs.Lents.{over-then}
 use Rattle.block.specs.Predictors.{fourBytes, predictorBytes}
 use Rattle.block.proofs.Layouts.{length-four}
 use Rattle.block.proofs.predictors.write_predictor.Statement.{statement}

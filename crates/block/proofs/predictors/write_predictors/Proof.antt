@@ -1,5 +1,5 @@
 -- `block::predictors::write_predictors` meets its contract. The invariant: the first `j` predictors are stored. Assumes nothing.
-use mathlib.Core.Path.{_≡_, refl, sym, _∙_}
+use mathlib.Core.Path.{_≡_, refl, sym}
 use Prim.Native.Nat.{ℕ, _+_, _*_, _-_, _≤_}
 use mathlib.Core.List.{List}
 use native.Mathlib.Numerals.{add-one}
@@ -10,9 +10,10 @@ use Rattle.lms.specs.declared.QoaLms.{QoaLms}
 use Rattle.format.specs.Format.{maxChannels}
 use Rattle.format.specs.Predictor.{lmsOf}
 use Rattle.body.specs.Laid.{laid}
-use Rattle.body.specs.Laid.{overlaid}
+use Rattle.refusal.specs.Rules.{good}
+use Rattle.refusal.specs.Lent.{laidOver}
 use Rattle.body.proofs.Laids.{length-blocks, next-block}
-use Rattle.body.proofs.Overlays.{over-nil}
+use Rattle.refusal.proofs.Lents.{over-nil}
 use Rattle.block.specs.Predictors.{predictorBytes, predictorsBytes}
 use Rattle.block.proofs.Holding.{held-bytes}
 use Rattle.block.proofs.Layouts.{length-predictor}
@@ -24,7 +25,7 @@ abbrev stored : List QoaLms → ℕ → ℕ → List ℕ
 stored states channels k = predictorBytes (lmsOf (table channels (lmsOf states)) k)
 
 abbrev Inv-loop : tie.InvT-loop
-Inv-loop block₀ at channels states j₀ block j = (j ≤ maxChannels) × (block ≡ overlaid block₀ at (laid j (stored states channels)))
+Inv-loop block₀ at channels states j₀ block j = (j ≤ maxChannels) × (block ≡ laidOver block₀ at (good (laid j (stored states channels))))
 
 abbrev μ-loop : tie.MeasureT-loop
 μ-loop block₀ at channels states j₀ block j = maxChannels - j

@@ -13,7 +13,6 @@ use Rattle.encoder.specs.Parts.{FrameFits, toldWide}
 use Rattle.encoder.proofs.Done.{frame-done, frame-fits, frame-wide, good-left}
 use Rattle.encoder.proofs.Frames.{wide-view}
 use Rattle.encoder.proofs.GoodEncoders.{Good}
-use Rattle.encoder.proofs.Heads.{over-start}
 use Rattle.encoder.proofs.frame.encode_checked.Statement.{statement}
 use Rattle.encoder.proofs.frame.encode_checked.Tie as tie
 
@@ -73,7 +72,7 @@ returns-2 c =
     let put = c .before .before .before in
     let told = put .before .before in
     let s = told .before .before .before .before .before .before in
-    frame-done _ _ _ _ _ (s .pre) (narrow told) (ap {B = Told} wrote (c .frame-length .ensures)) (put .put-frame .ensures .1 ∙ over-start _ _) (put .put-frame .ensures .0)
+    frame-done _ _ _ _ _ (s .pre) (narrow told) (ap {B = Told} wrote (c .frame-length .ensures)) (put .put-frame .ensures .1) (put .put-frame .ensures .0)
 
 pub encode-checked-spec : {M : Type 1} → statement M
 encode-checked-spec =

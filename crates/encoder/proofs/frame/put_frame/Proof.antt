@@ -10,7 +10,7 @@ use Rattle.format.specs.Predictor.{lmsOf}
 use Rattle.encoder.specs.Encoder.{encoderView}
 use Rattle.encoder.proofs.Frames.{after-of, frame-of, frame-most, frame-over, frame-small, frame-within}
 use Rattle.body.proofs.Laids.{length-states}
-use Rattle.body.proofs.Overlays.{length-over}
+use Rattle.refusal.proofs.Lents.{length-over}
 use Rattle.encoder.proofs.frame.put_frame.Statement.{statement}
 use Rattle.encoder.proofs.frame.put_frame.Tie as tie
 

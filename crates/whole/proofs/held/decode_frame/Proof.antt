@@ -1,17 +1,19 @@
 -- `whole::held::decode_frame` meets its contract. Assumes nothing.
 use borrow.Author.Needs.{needs}
-use mathlib.Core.List.{List, _++_}
+use mathlib.Core.List.{List}
 use Prim.Native.Nat.{ℕ, _+_, _*_}
 use mathlib.Core.Path.{_≡_, sym, ap, subst, _∙_}
 use native.Mathlib.Omega.{arith}
 use denote.Ref.{now}
 use lib.Dec.{lit≤}
 use lib.IntN.{ℤ}
-use lib.ListN.{take, drop, length-drop}
+use lib.ListN.{length-drop}
 use Rattle.lms.specs.declared.QoaLms.{QoaLms}
 use Rattle.lms.proofs.Bounds.{within-more}
 use Rattle.word.specs.Written.{written}
-use Rattle.word.proofs.Writes.{written-list}
+use Rattle.refusal.specs.Rules.{good}
+use Rattle.refusal.specs.Lent.{laidOver}
+use Rattle.refusal.proofs.Lents.{over-written}
 use Rattle.format.specs.Format.{frameLength, stateEnd}
 use Rattle.format.proofs.Headers.{frame-long}
 use Rattle.groups.specs.Groups.{groupsAt}
@@ -81,14 +83,13 @@ returns c =
     let h = start .args .h in
     let b = now (start .args .bytes) in
     let out = now (start .args .out) in
-    let n = start .args .start + h .samples * h .channels in
     let samples = groupsAt b (start .args .at + stateEnd (h .channels)) (h .channels) (c .before .before .before .before .read-states .result) in
     let place : start .args .at + c .before .before .before .state-end .result ≡ start .args .at + stateEnd (h .channels) = ap (λ (k : ℕ). start .args .at + k) (c .before .before .before .state-end .ensures) in
     let heard = frame-here b (start .args .at) h (c .before .before .before .before .read-states .result) (there (c .before .before .before .before)) (sym (start .pre .1 .0 .0)) (omega (arith, length-drop (start .args .at) b, start .pre .1)) in
     c .before .decode-groups .ensures .1
     ∙ ap (λ (p : ℕ). written (groupsAt b p (h .channels) (c .before .before .before .before .read-states .result)) out (start .args .start) 1 (h .samples * h .channels)) place
-    ∙ written-list samples out (start .args .start) (h .samples * h .channels) (start .pre .1 .1)
-    ∙ ap (λ (xs : List ℤ). take (start .args .start) out ++ (xs ++ drop n out)) (sym heard)
+    ∙ over-written out samples (start .args .start) (h .samples * h .channels) (start .pre .1 .1)
+    ∙ ap (λ (xs : List ℤ). laidOver out (start .args .start) (good xs)) (sym heard)
 
 pub decode-frame-spec : {M : Type 1} → statement M
 decode-frame-spec =
