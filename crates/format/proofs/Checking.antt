@@ -53,9 +53,9 @@ module _ (kind : Kind) (h : FrameHeader) (need left : ℕ) where
   pub passed : firstOf (frameRules kind h need left) ≡ none → Checks kind h need left
   passed e = checks (quiet _ e)
 
-  pub quiet-frame : Checks kind h need left → Quiet (frameRules kind h need left)
+  pub quiet-checks : Checks kind h need left → Quiet (frameRules kind h need left)
   unfolding frameRules
-  quiet-frame k =
+  quiet-checks k =
       quiet-both (headerRules h) (kindRules kind h left ++ cutRules need left) (quiet-header h (k .header))
       (quiet-both (kindRules kind h left) (cutRules need left) (k .like) (omega (arith, tests, k .there)))
 
