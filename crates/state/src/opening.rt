@@ -16,6 +16,7 @@ use crate::OpenedDecoder;
 use crate::PENDING;
 use crate::ProcessingMode;
 use crate::QoaDecoder;
+use format::checks::Kind;
 use format::frame::FrameHeader;
 use format::frame::HeaderAnswer;
 use format::frame::QOA_HEADER_SIZE;
@@ -81,15 +82,10 @@ fn first_frame(bytes: &[u8]) -> HeaderAnswer
         return HeaderAnswer::Refused(Refusal::NoSamples);
     }
     let h = format::read_header(bytes, QOA_HEADER_SIZE);
-    match format::check_header(h) {
+    let need = format::state_end(h.channels as usize);
+    match format::check_frame(h, Kind::Any, need, left) {
         Checked::Refused(r) => HeaderAnswer::Refused(r),
-        Checked::Passed => {
-            if left < format::state_end(h.channels as usize) {
-                HeaderAnswer::Refused(Refusal::Truncated)
-            } else {
-                HeaderAnswer::Good(h)
-            }
-        }
+        Checked::Passed => HeaderAnswer::Good(h),
     }
 }
 
