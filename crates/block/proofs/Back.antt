@@ -3,12 +3,12 @@ use Prim.Native.Nat.{ℕ, _+_, _-_, _*_, _≤_, _<_, _^_}
 use mathlib.Core.Bool.{Bool, true, false, cond}
 use mathlib.Core.List.{List, [], _∷_, _++_, append-assoc}
 use mathlib.Core.Path.{_≡_, refl, sym, subst, ap, ap₂, _∙_}
-use borrow.Author.Tests.{le-ltb, ltb-false, ltb-true}
+use borrow.Author.Tests.{le-ltb}
 use native.Mathlib.Nat.{add-assoc, add-zero, zero-add}
 use native.Mathlib.Omega.{arith}
-use lib.Dec.{eqb, lit<, lit≤, ltb}
+use lib.Dec.{eqb, lit<, lit≤}
 use lib.IntN.{ℤ, pos}
-use lib.ListN.{getD, length}
+use lib.ListN.{length}
 use mir.Syntax.{w16, w32}
 use mir.Val.{SFits, toZ}
 use Rattle.wrap.specs.Wrap.{low16, low32}
@@ -26,7 +26,6 @@ use Rattle.state.specs.View.{View}
 use Rattle.state.specs.declared.ProcessingMode.{ProcessingMode}
 use Rattle.state.specs.declared.ProcessingMode.the-variants.{FixedSamples, Streaming}
 use Rattle.encoder.specs.Encoder as E
-use Rattle.body.specs.Laid.{laid}
 use Rattle.block.specs.DecoderBlock.{byteIn, decoderBytes, decoderIn, factsBytes, frameIn, modeBytes, modeIn, pendingAt, pendingBytes, restBytes, sampleIn}
 use Rattle.block.specs.EncoderBlock.{encoderBytes, encoderIn}
 use Rattle.block.specs.Predictors.{fourBytes, fourIn, predictorBytes, predictorIn, predictorsBytes, predictorsIn}

@@ -1,9 +1,9 @@
 -- What is stored of a state is what its view shows, and what is read has the block's view. Assumes nothing.
-use Prim.Native.Nat.{ℕ, _+_, _-_, _*_, _≤_, _<_}
+use Prim.Native.Nat.{ℕ, _+_, _-_, _≤_, _<_}
 use mathlib.Core.Bool.{Bool, true, false, cond}
 use mathlib.Core.List.{List}
 use mathlib.Core.Path.{_≡_, refl, sym, ap, _∙_}
-use borrow.Author.Tests.{le-ltb, lt-ltb, ltb-false, ltb-true}
+use borrow.Author.Tests.{ltb-false, ltb-true}
 use native.Mathlib.Nat.{mul-one}
 use native.Mathlib.Omega.{arith}
 use lib.Dec.{lit<, ltb}
@@ -15,7 +15,7 @@ use Rattle.word.specs.Written.{table, written}
 use Rattle.word.proofs.Tables.{getD-table, length-table, table-ext}
 use Rattle.word.proofs.Writes.{written-at}
 use Rattle.lms.specs.declared.QoaLms.{QoaLms}
-use Rattle.format.specs.Format.{maxChannels, pendingLen}
+use Rattle.format.specs.Format.{pendingLen}
 use Rattle.format.specs.Predictor.{lmsOf, noLms}
 use Rattle.body.specs.Laid.{laid}
 use Rattle.body.proofs.Laids.{laid-ext}

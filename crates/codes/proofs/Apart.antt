@@ -2,7 +2,7 @@
 use Prim.Native.Nat.{ℕ, zero, suc, _+_, _*_, _<_}
 use mathlib.Core.Path.{_≡_, refl, sym, ap, ap₂}
 use native.Mathlib.Omega.{arith}
-use lib.IntN.{ℤ, pos, negsuc, negℤ}
+use lib.IntN.{pos, negℤ}
 use Rattle.refusal.specs.Rules.{Answer, good, refused}
 use Rattle.encoder.specs.Calls.{Told, refuses, refuses-14, wrote}
 use Rattle.codes.specs.Codes.{coded, codedEncode}

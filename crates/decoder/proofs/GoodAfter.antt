@@ -17,7 +17,7 @@ use Rattle.word.proofs.Tables.{getD-table}
 use Rattle.word.proofs.Tests.{tests}
 use Rattle.lms.specs.Parts.{HistoryFits, WeightsWithin}
 use Rattle.lms.proofs.Bounds.{within-more}
-use Rattle.format.specs.Format.{slicesOf}
+use Rattle.format.specs.Format.{slicesOf, stateEnd}
 use Rattle.format.specs.Header.{headerAt, leftAt}
 use Rattle.format.specs.Predictor.{lmsOf, noLms}
 use Rattle.word.proofs.Fields.{AreBytes}
@@ -32,10 +32,10 @@ use Rattle.state.proofs.GoodStates.{Good, facts-good, good-facts}
 use Rattle.state.proofs.OpenedStates.{read-good}
 use Rattle.into.specs.Into.{pendingTo, groupsEnd, groupsFor, groupsLms, groupsSamples, intoAfter, intoCount, intoGroups, intoRules, pendingFrom, takenFrom}
 use Rattle.frames.specs.Frames as Frames
-use Rattle.frames.specs.Frames.{dropped, enterRules, entered, enteredOr, frameRules, nextRules}
+use Rattle.frames.specs.Frames.{dropped, enterRules, entered, enteredOr, entryRules, kindOf, nextRules}
 use Rattle.decoder.specs.Items.{Turn, first-header, from-group, from-next, from-pending, itemAfter, itemRules, settled, turnAfter, turnOf, turnRules}
 use Rattle.into.proofs.Counts.{slices-cover}
-use Rattle.frames.proofs.FrameLaws.{frame-passed}
+use Rattle.format.proofs.Checking.{passed}
 use Rattle.into.proofs.Ranges.{range-le, range-order}
 
 -- a rule that is quiet about a test
@@ -129,16 +129,16 @@ module _ (bs : List ℕ) (v : View) (small : v .frame .samples ≤ 65535) where
 -- ---- a frame that is entered, or the end
 
 module _ (bs : List ℕ) (bytes : AreBytes bs) (v : View) (g : Good v (length bs)) where
-  entered-good : 8 ≤ leftAt bs (v .at) → firstOf (frameRules (v .mode) (headerAt bs (v .at)) (leftAt bs (v .at))) ≡ none → Good (entered bs v) (length bs)
+  entered-good : 8 ≤ leftAt bs (v .at) → firstOf (entryRules (v .mode) (headerAt bs (v .at)) (leftAt bs (v .at))) ≡ none → Good (entered bs v) (length bs)
   unfolding entered
   entered-good there e =
       let h = headerAt bs (v .at) in
-      let facts = frame-passed (v .mode) h (leftAt bs (v .at)) e in
+      let facts = passed (kindOf (v .mode)) h (stateEnd (h .channels)) (leftAt bs (v .at)) e in
       record {
-        place = omega (arith, facts .2);
+        place = omega (arith, facts .there);
         mode-good = g .mode-good;
-        few-channels = facts .1;
-        some-channels = λ r. facts .0;
+        few-channels = facts .header .few-channels;
+        some-channels = λ r. facts .header .some-channels;
         within-frame = le-refl (h .samples);
         in-order = omega arith;
         one-group = omega arith;

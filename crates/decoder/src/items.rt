@@ -4,7 +4,7 @@ ghost use mathlib.Core.Bool.{true};
 ghost use mathlib.Core.List.{List};
 ghost use Prim.Native.Nat.{ℕ, _*_, _≤_, _<_};
 ghost use lib.ListN.{length};
-ghost use Rattle.format.specs.Format.{maxChannels, pendingLen};
+ghost use Rattle.format.specs.Format.{pendingLen};
 ghost use Rattle.state.specs.View.{view};
 ghost use Rattle.state.specs.States.{goodState};
 ghost use Rattle.decoder.specs.declared.QoaItem.the-variants.{Refused};
@@ -14,6 +14,7 @@ use crate::QoaItem;
 use format::frame::QOA_HEADER_SIZE;
 use frames::FrameAnswer;
 use frames::enter_frame;
+use frames::has_read;
 use into::after_pending;
 use into::decode_more;
 use refusal::Refusal;
@@ -92,7 +93,11 @@ fn frame_item(d: QoaDecoder, bytes: &[u8]) -> NextItem
     ensures { λ r. ⌜ TurnDone from-next (now (bytes .entry)) d r ⌝ }
 {
     let at = d.at;
-    if bytes.len() - at < QOA_HEADER_SIZE {
+    let left = bytes.len() - at;
+    if left < QOA_HEADER_SIZE {
+        if !format::tail_ok(left, has_read(d)) {
+            return refused_item(d, Refusal::Truncated);
+        }
         return NextItem {
             item: QoaItem::End,
             state: settle(d),

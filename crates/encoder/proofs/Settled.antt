@@ -16,7 +16,6 @@ use Rattle.encoder.specs.declared.CreatedEncoder.{CreatedEncoder}
 use Rattle.encoder.specs.declared.EncodeAnswer as E
 use Rattle.encoder.specs.declared.EncodedBytes.{EncodedBytes}
 use Rattle.encoder.specs.declared.QoaEncoder.{QoaEncoder}
-use Rattle.refusal.specs.Refusals.{toldChecked}
 
 -- ---- what is told is one-to-one
 

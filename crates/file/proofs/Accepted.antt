@@ -16,8 +16,8 @@ use Rattle.format.specs.FileHeader.{fileRules, isFixed, magic, totalOf}
 use Rattle.format.specs.Header.{headerAt}
 use Rattle.format.specs.Part.{lengthOf}
 use Rattle.format.specs.Grammar.{Cut, Each, IsCut, IsFrame, cutBytes, joined, tailOk}
-use Rattle.file.specs.Walk.{Walk, pastFrame, frameAt, walkOf}
-use Rattle.file.specs.Whole.{body, bodyFor, cutOf, rulesAt, someRules, wholeFile, withFirst}
+use Rattle.file.specs.Walk.{Walk, pastFrame, frameAt, rulesAt, walkOf}
+use Rattle.file.specs.Whole.{body, bodyFor, cutOf, likeFirst, someRules, wholeFile, withFirst}
 use Rattle.file.proofs.Frames.{after-frame, frame-at, frame-eight, frame-starts, is-frame, quiet-frame, starts, whole-file-fit}
 use Rattle.file.proofs.Walks.{Walked, walked, walks}
 
@@ -41,8 +41,8 @@ module _ (fixed : Bool) (c r : ℕ) where
   unfolding bodyFor
   found b w e =
       let rest = walkOf (wholeFile fixed c r) (pastFrame b) in
-      let some = after-good (someRules b) (after (rulesAt fixed c r b) rest) w e in
-      let passed = after-good (rulesAt fixed c r b) rest w (some .1) in
+      let some = after-good (someRules b) (after (rulesAt (likeFirst fixed c r) b) rest) w e in
+      let passed = after-good (rulesAt (likeFirst fixed c r) b) rest w (some .1) in
       (is-frame c r b (starts fixed c r b (passed .0)), walked (wholeFile fixed c r) (IsFrame c r) (whole-file-fit fixed c r) (pastFrame b) w (passed .1))
 
   finds : (f : List ℕ) (fs : List (List ℕ)) (t : List ℕ) → IsFrame c r f → Each (IsFrame c r) fs → T (tailOk (length t) true)
@@ -53,7 +53,7 @@ module _ (fixed : Bool) (c r : ℕ) where
       let s = frame-starts c r f (joined fs t) i in
       let n : Quiet (someRules b) = omega (arith, tests, frame-eight (headerAt b 0)) in
       let rest = walks (wholeFile fixed c r) (IsFrame c r) (whole-file-fit fixed c r) fs t is (notn (tailOk (length t) true) k, tt) in
-      rw (after-frame f (joined fs t) (i .whole), none-fires (someRules b) n, none-fires (rulesAt fixed c r b) (quiet-frame fixed c r b s), rest)
+      rw (after-frame f (joined fs t) (i .whole), none-fires (someRules b) n, none-fires (rulesAt (likeFirst fixed c r) b) (quiet-frame fixed c r b s), rest)
 
 -- the reader's cut is one of the grammar
 pub sound : (b : List ℕ) (k : Cut) → cutOf b ≡ good k → IsCut k b

@@ -15,14 +15,15 @@ use Rattle.format.specs.Format.{frameLength, slicesOf, stateEnd}
 use Rattle.format.specs.FileHeader.{fileRules}
 use Rattle.format.specs.Header.{headerAt, headerRules, sizeSlices}
 use Rattle.format.specs.Predictor.{lmsAt}
+use Rattle.format.specs.Checks.{frameRules}
 use Rattle.format.specs.Grammar.{tailOk}
 use Rattle.slice.specs.Slice.{sampleAt, stateAfter}
 use Rattle.groups.specs.Channel.{channelAt, runAfter}
 use Rattle.groups.specs.Groups.{groupsAt}
 use Rattle.file.specs.Frame.{frameSamples, frameStates}
 use Rattle.file.specs.Walk.{walkBy, walkOf}
-use Rattle.file.specs.Whole.{audioIn, audioOf, bodyFor, cutOf, decode, frameRules, otherRules}
-use Rattle.file.specs.Streaming.{freeRules, samplesIn, streamed}
+use Rattle.file.specs.Whole.{audioIn, audioOf, bodyFor, cutOf, decode}
+use Rattle.file.specs.Streaming.{samplesIn, streamed}
 
 -- one mono sample 0 at 44100 Hz
 abbrev pub oneSample : List ℕ
@@ -36,12 +37,12 @@ oneSample =
 pub one-sample : (decode 1 oneSample ≡ good (record { channels = 1; rate = 44100; samples = pos 1 ∷ [] }))
     × (decode 1 (oneSample ++ replicate 7 1) ≡ good (record { channels = 1; rate = 44100; samples = pos 1 ∷ [] }))
     × (decode 0 oneSample ≡ refused 7)
-unfolding decode audioIn firstOf cutOf bodyFor walkOf walkBy fileRules frameRules otherRules headerRules headerAt frameLength slicesOf stateEnd sizeSlices tailOk be audioOf flatMap frameSamples frameStates table lmsAt groupsAt channelAt runAfter sampleAt stateAfter heard sampleOf predicted dot modulo clamp16 rowOf rowFor factorOf factors
+unfolding decode audioIn firstOf cutOf bodyFor walkOf walkBy fileRules frameRules headerRules headerAt frameLength slicesOf stateEnd sizeSlices tailOk be audioOf flatMap frameSamples frameStates table lmsAt groupsAt channelAt runAfter sampleAt stateAfter heard sampleOf predicted dot modulo clamp16 rowOf rowFor factorOf factors
 one-sample = (refl, refl, refl)
 
 -- its frame, as a run of streaming frames; no bytes give no samples; a byte left over is 5
 pub one-frame : (streamed 1 (drop 8 oneSample) ≡ good (pos 1 ∷ [])) × (streamed 0 [] ≡ good []) × (streamed 1 (drop 8 oneSample ++ (0 ∷ [])) ≡ refused 5)
-unfolding streamed samplesIn firstOf walkOf walkBy freeRules headerRules headerAt frameLength slicesOf stateEnd sizeSlices be flatMap frameSamples frameStates table lmsAt groupsAt channelAt runAfter sampleAt stateAfter heard sampleOf predicted dot modulo clamp16 rowOf rowFor factorOf factors
+unfolding streamed samplesIn firstOf walkOf walkBy frameRules headerRules headerAt frameLength slicesOf stateEnd sizeSlices be flatMap frameSamples frameStates table lmsAt groupsAt channelAt runAfter sampleAt stateAfter heard sampleOf predicted dot modulo clamp16 rowOf rowFor factorOf factors
 one-frame = (refl, refl, refl)
 
 -- a frame without samples, and the header of one at another rate whose state is cut: 4 in fixed mode, 5 in streaming mode
@@ -52,5 +53,5 @@ otherRate total =
     ++ (1 ∷ 0 ∷ 0 ∷ 2 ∷ 0 ∷ 0 ∷ 0 ∷ 0x20 ∷ [])
 
 pub order-by-mode : (decode 0 (otherRate 1) ≡ refused 4) × (decode 0 (otherRate 0) ≡ refused 5)
-unfolding decode audioIn firstOf cutOf bodyFor walkOf walkBy fileRules frameRules otherRules headerRules headerAt frameLength slicesOf stateEnd sizeSlices tailOk be
+unfolding decode audioIn firstOf cutOf bodyFor walkOf walkBy fileRules frameRules headerRules headerAt frameLength slicesOf stateEnd sizeSlices be
 order-by-mode = (refl, refl)

@@ -1,5 +1,5 @@
 -- How many samples: n for each channel of a frame, so that the need of a file is told by its headers. Assumes nothing.
-use Prim.Native.Nat.{ℕ, _+_, _*_, _≤_}
+use Prim.Native.Nat.{ℕ, _*_, _≤_}
 use mathlib.Core.Path.{_≡_, refl}
 use mathlib.Core.List.{List, [], _∷_, flatMap}
 use native.Mathlib.Nat.{mul-le-mul-right}

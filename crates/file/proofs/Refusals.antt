@@ -11,14 +11,17 @@ use lib.ListN.{length, take, drop}
 use Rattle.refusal.specs.Rules.{Answer, refused, good, Rule, _gives_, firstOf, after, _then_}
 use Rattle.refusal.proofs.Rules.{after-refused, fires, never, none-fires, quiet, then-refused, unless-refused}
 use Rattle.word.proofs.Tests.{tests}
-use Rattle.format.specs.Format.{mostBytes, stateEnd}
+use Rattle.format.specs.Format.{mostBytes}
 use Rattle.format.specs.FileHeader.{fileRules, isFixed, totalOf}
 use Rattle.format.specs.Header.{headerAt, headerRules}
 use Rattle.format.specs.Part.{cutRules, lengthOf}
+use Rattle.format.specs.Checks.{frameRules, kindRules, sameRules, stateRules}
 use Rattle.format.specs.Grammar.{Cut, IsCut}
 use Rattle.format.specs.declared.frame.FrameHeader.{FrameHeader}
-use Rattle.file.specs.Walk.{Walk, pastFrame, ends, frameAt, roomRules, step, walkBy, walkOf, withFrame}
-use Rattle.file.specs.Whole.{Audio, audioIn, audioOf, body, bodyFor, cutOf, decode, frameRules, inOrder, longRules, otherRules, rulesAt, sameRules, someRules, tailRules, wholeFile, withFirst, withRoom}
+use Rattle.format.specs.declared.checks.First.{First}
+use Rattle.format.specs.declared.checks.Kind.the-variants.{Like}
+use Rattle.file.specs.Walk.{Walk, pastFrame, ends, frameAt, roomRules, rulesAt, step, walkBy, walkOf, withFrame}
+use Rattle.file.specs.Whole.{Audio, audioIn, audioOf, body, bodyFor, cutOf, decode, likeFirst, longRules, someRules, tailRules, wholeFile, withFirst, withRoom}
 use Rattle.file.proofs.Accepted.{HeadGood, head-good, quiet-head}
 use Rattle.file.proofs.Decoded.{held, holds}
 
@@ -44,17 +47,21 @@ module _ (P : ℕ → Type 0) (three : P 3) (four : P 4) (five : P 5) (six : P 6
   unfolding headerRules
   header-gives h = (three, (three, (three, (three, (three, (six, tt))))))
 
-  order-gives : (fixed : Bool) (c r left n : ℕ) (h : FrameHeader) → Give P (inOrder fixed (sameRules c r h) (cutRules n left))
-  order-gives true c r left n h = (four, (four, (five, tt)))
-  order-gives false c r left n h = (five, (four, (four, tt)))
+  state-gives : (fixed : Bool) (c left : ℕ) → Give P (stateRules fixed c left)
+  state-gives true c left = tt
+  state-gives false c left = (five, tt)
 
-  frame-gives : (fixed : Bool) (c r : ℕ) (b : List ℕ) → Give P (rulesAt fixed c r b)
-  unfolding frameRules otherRules
+  like-gives : (f : First) (h : FrameHeader) (left : ℕ) → Give P (kindRules (Like f) h left)
+  like-gives f h left = give-both P (stateRules (f .fixed) (h .channels) left) (sameRules (f .channels) (f .rate) h) (state-gives (f .fixed) (h .channels) left) (four, (four, tt))
+
+  frame-gives : (fixed : Bool) (c r : ℕ) (b : List ℕ) → Give P (rulesAt (likeFirst fixed c r) b)
+  unfolding frameRules
   frame-gives fixed c r b =
       let h = headerAt b 0 in
-      let left = length b in
-      give-both P (headerRules h) (inOrder fixed (sameRules c r h) (cutRules (stateEnd (h .channels)) left) ++ cutRules (lengthOf h) left) (header-gives h)
-      (give-both P (inOrder fixed (sameRules c r h) (cutRules (stateEnd (h .channels)) left)) (cutRules (lengthOf h) left) (order-gives fixed c r left (stateEnd (h .channels)) h) (five, tt))
+      let like = kindRules (likeFirst fixed c r) h (length b) in
+      let whole = cutRules (lengthOf h) (length b) in
+      give-both P (headerRules h) (like ++ whole) (header-gives h)
+      (give-both P like whole (like-gives (record { fixed = fixed; channels = c; rate = r }) h (length b)) (five, tt))
 
   module _ (fixed : Bool) (c r : ℕ) where
     ends-gives : (b : List ℕ) (n : ℕ) → ends (wholeFile fixed c r) b ≡ refused n → P n
@@ -68,21 +75,21 @@ module _ (P : ℕ → Type 0) (three : P 3) (four : P 4) (five : P 5) (six : P 6
         rest : Answer Walk
         rest = walkBy (wholeFile fixed c r) fuel (pastFrame b)
 
-        go : (short : Bool) → (rest ≡ refused n → P n) → step (wholeFile fixed c r) short b (firstOf (rulesAt fixed c r b)) rest ≡ refused n → P n
+        go : (short : Bool) → (rest ≡ refused n → P n) → step (wholeFile fixed c r) short b (firstOf (rulesAt (likeFirst fixed c r) b)) rest ≡ refused n → P n
         go true ih e = ends-gives b n e
         go false ih e =
-            ⊎-elim (λ f. given P (rulesAt fixed c r b) n f (frame-gives fixed c r b))
+            ⊎-elim (λ f. given P (rulesAt (likeFirst fixed c r) b) n f (frame-gives fixed c r b))
             (λ q. ⊎-elim ih (λ y. never _ n (y .2)) (then-refused rest (withFrame (frameAt b)) n (q .1)))
-            (unless-refused (firstOf (rulesAt fixed c r b)) (rest then withFrame (frameAt b)) n e)
+            (unless-refused (firstOf (rulesAt (likeFirst fixed c r) b)) (rest then withFrame (frameAt b)) n e)
 
     -- after the first 8 bytes of a frame are there
     body-gives : (b : List ℕ) (n : ℕ) → bodyFor fixed c r b ≡ refused n → (firstOf (someRules b) ≡ some n) ⊎ P n
     unfolding bodyFor walkOf
     body-gives b n e =
         ⊎-elim inl
-        (λ q. inr (⊎-elim (λ f. given P (rulesAt fixed c r b) n f (frame-gives fixed c r b)) (λ w. walk-by-gives (length (pastFrame b)) (pastFrame b) n (w .1))
-        (unless-refused (firstOf (rulesAt fixed c r b)) (walkOf (wholeFile fixed c r) (pastFrame b)) n (q .1))))
-        (unless-refused (firstOf (someRules b)) (after (rulesAt fixed c r b) (walkOf (wholeFile fixed c r) (pastFrame b))) n e)
+        (λ q. inr (⊎-elim (λ f. given P (rulesAt (likeFirst fixed c r) b) n f (frame-gives fixed c r b)) (λ w. walk-by-gives (length (pastFrame b)) (pastFrame b) n (w .1))
+        (unless-refused (firstOf (rulesAt (likeFirst fixed c r) b)) (walkOf (wholeFile fixed c r) (pastFrame b)) n (q .1))))
+        (unless-refused (firstOf (someRules b)) (after (rulesAt (likeFirst fixed c r) b) (walkOf (wholeFile fixed c r) (pastFrame b))) n e)
 
   -- where a file's refusal comes from
   cut-gives : (b : List ℕ) (n : ℕ) → cutOf b ≡ refused n → (firstOf (fileRules b) ≡ some n) ⊎ ((firstOf (fileRules b) ≡ none) × ((firstOf (someRules (drop 8 b)) ≡ some n) ⊎ P n))

@@ -7,8 +7,8 @@ use mathlib.Core.List.{List, [], _∷_, _++_, append-assoc}
 use lib.Dec.{T}
 use lib.ListN.{length}
 use Rattle.format.specs.Grammar.{Cut, IsCut, cutBytes, joined, tailOk}
+use Rattle.format.proofs.Tails.{tail-none}
 use Rattle.file.specs.Whole.{audioOf}
-use Rattle.file.proofs.Frames.{tail-none}
 
 joined-tail : (fs : List (List ℕ)) (t : List ℕ) → joined fs t ≡ joined fs [] ++ t
 joined-tail [] t = refl

@@ -9,6 +9,8 @@ use lib.ListN.{length, take, drop}
 use Rattle.refusal.specs.Rules.{Answer, good, Rule, _gives_, firstOf, unless, after, _then_}
 use Rattle.format.specs.Header.{headerAt}
 use Rattle.format.specs.Part.{lengthOf}
+use Rattle.format.specs.Checks.{frameRules}
+use Rattle.format.specs.declared.checks.Kind.{Kind}
 use Rattle.file.specs.Frame.{countOf, frameSamples}
 
 -- the frame at the start of b, and what follows it
@@ -17,6 +19,10 @@ frameAt b = take (lengthOf (headerAt b 0)) b
 
 abbrev pub pastFrame : List ℕ → List ℕ
 pastFrame b = drop (lengthOf (headerAt b 0)) b
+
+-- the checks of a whole frame of a kind at the start of b
+abbrev pub rulesAt : Kind → List ℕ → List Rule
+rulesAt kind b = let h = headerAt b 0 in frameRules kind h (lengthOf h) (length b)
 
 -- the rules for a frame at the start of a list, and for an end with so many bytes left
 pub record WalkRules : Type 0 where

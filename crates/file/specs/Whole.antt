@@ -1,18 +1,18 @@
 -- Whole-file decoding, with its order of refusals. Assumes nothing.
 use Prim.Native.Nat.{ℕ}
-use mathlib.Core.Bool.{Bool, true, false, not}
-use mathlib.Core.List.{List, [], _∷_, _++_}
-use lib.Dec.{eqb, ltb}
+use mathlib.Core.Bool.{Bool, true, not}
+use mathlib.Core.List.{List, [], _∷_}
+use lib.Dec.{ltb}
 use lib.IntN.{ℤ}
 use lib.ListN.{length, take, drop}
 use Rattle.refusal.specs.Rules.{Answer, good, Rule, _gives_, after, _then_}
-use Rattle.format.specs.Format.{mostBytes, stateEnd}
+use Rattle.format.specs.Format.{mostBytes}
 use Rattle.format.specs.FileHeader.{fileRules, isFixed, totalOf}
-use Rattle.format.specs.Header.{headerAt, headerRules}
-use Rattle.format.specs.Part.{cutRules, lengthOf}
+use Rattle.format.specs.Header.{headerAt}
 use Rattle.format.specs.Grammar.{Cut, tailOk}
-use Rattle.format.specs.declared.frame.FrameHeader.{FrameHeader}
-use Rattle.file.specs.Walk.{WalkRules, Walk, pastFrame, frameAt, roomRules, samplesOf, walkOf}
+use Rattle.format.specs.declared.checks.Kind.{Kind}
+use Rattle.format.specs.declared.checks.Kind.the-variants.{Like}
+use Rattle.file.specs.Walk.{WalkRules, Walk, pastFrame, frameAt, roomRules, rulesAt, samplesOf, walkOf}
 
 -- ---- what a file holds
 
@@ -29,35 +29,18 @@ audioOf k =
       samples = samplesOf (k .first ∷ k .others);
     }
 
--- ---- the rules for a frame
+-- ---- the frames of a file
 
--- other channels or another rate than the first frame's
-abbrev pub sameRules : ℕ → ℕ → FrameHeader → List Rule
-sameRules c r h = (not (eqb (h .channels) c) gives 4) ∷ (not (eqb (h .rate) r) gives 4) ∷ []
+-- frames like the first, which has c channels and rate r
+abbrev pub likeFirst : Bool → ℕ → ℕ → Kind
+likeFirst fixed c r = Like (record { fixed = fixed; channels = c; rate = r })
 
--- in fixed mode 4 comes before the state is read, in streaming mode after
-abbrev pub inOrder : Bool → List Rule → List Rule → List Rule
-inOrder true same state = same ++ state
-inOrder false same state = state ++ same
-
--- a frame with the header h, of which so many bytes are left, where the first frame has c channels and rate r
-unfoldable pub otherRules : Bool → ℕ → ℕ → FrameHeader → ℕ → List Rule
-otherRules fixed c r h left = inOrder fixed (sameRules c r h) (cutRules (stateEnd (h .channels)) left) ++ cutRules (lengthOf h) left
-
-unfoldable pub frameRules : Bool → ℕ → ℕ → FrameHeader → ℕ → List Rule
-frameRules fixed c r h left = headerRules h ++ otherRules fixed c r h left
-
--- the bytes after the last frame
+-- the bytes after the last frame; never fires while `tailOk` accepts every end under 8 bytes
 abbrev pub tailRules : ℕ → List Rule
 tailRules left = (not (tailOk left true) gives 5) ∷ []
 
--- ---- the frames of a file
-
-abbrev pub rulesAt : Bool → ℕ → ℕ → List ℕ → List Rule
-rulesAt fixed c r b = frameRules fixed c r (headerAt b 0) (length b)
-
 abbrev pub wholeFile : Bool → ℕ → ℕ → WalkRules
-wholeFile fixed c r = record { frame = rulesAt fixed c r; tail = tailRules }
+wholeFile fixed c r = record { frame = rulesAt (likeFirst fixed c r); tail = tailRules }
 
 -- fewer than 8 bytes after the file header
 abbrev pub someRules : List ℕ → List Rule
@@ -65,7 +48,7 @@ someRules b = (ltb (length b) 8 gives 2) ∷ []
 
 -- the first frame, at the start of b, and the walk over those that are to be like it
 unfoldable pub bodyFor : Bool → ℕ → ℕ → List ℕ → Answer Walk
-bodyFor fixed c r b = after (someRules b) (after (rulesAt fixed c r b) (walkOf (wholeFile fixed c r) (pastFrame b)))
+bodyFor fixed c r b = after (someRules b) (after (rulesAt (likeFirst fixed c r) b) (walkOf (wholeFile fixed c r) (pastFrame b)))
 
 abbrev pub body : Bool → List ℕ → Answer Walk
 body fixed b = bodyFor fixed (headerAt b 0 .channels) (headerAt b 0 .rate) b

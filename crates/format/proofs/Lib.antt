@@ -2,4 +2,6 @@
 pub mod Headers
 pub mod FileHeaders
 pub mod Parts
+pub mod Checking
+pub mod Tails
 pub mod Lasting

@@ -5,7 +5,6 @@ use mathlib.Core.List.{List, [], _∷_}
 use lib.Dec.{eqb, leb, ltb}
 use lib.ListN.{length}
 use Rattle.word.specs.Bytes.{be8, be16, be24}
-use Rattle.word.specs.Word.{field}
 use Rattle.refusal.specs.Rules.{Answer, good, refused, Rule, _gives_, after}
 use Rattle.format.specs.Format.{maxChannels, slicesPerFrame, stateEnd}
 use Rattle.refusal.specs.Refusals.{numberOf}

@@ -4,6 +4,7 @@ pub mod FileHeader
 pub mod Header
 pub mod Predictor
 pub mod Part
+pub mod Checks
 pub mod Facts
 pub mod Grammar
 pub mod Parts

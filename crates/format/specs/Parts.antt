@@ -1,6 +1,7 @@
 -- What the parts of the code ask and answer. Assumes nothing.
 use Prim.Native.Nat.{ℕ, _+_, _-_, _*_, _^_}
 use mathlib.Core.List.{List}
+use mathlib.Core.Option.{Option, none, some}
 use lib.IntN.{ℤ}
 use mir.Syntax.{w16}
 use mir.Val.{toZ}
@@ -27,3 +28,8 @@ fourOf w = table 4 (λ i. toZ w16 (field 16 (48 - 16 * i) w))
 -- `out` with the state stored at a place
 unfoldable pub putLms : List ℕ → ℕ → QoaLms → List ℕ
 putLms out p lms = put 8 (put 8 out p (fourWord (lms .history))) (p + 8) (fourWord (lms .weights))
+
+-- the first of two refusals
+abbrev pub sooner : Option ℕ → Option ℕ → Option ℕ
+sooner none b = b
+sooner (some n) b = some n

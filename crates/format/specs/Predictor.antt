@@ -1,13 +1,12 @@
 -- A channel's predictor state in a frame: four history and four weight numbers, signed 16-bit. Assumes nothing.
-use Prim.Native.Nat.{ℕ, _+_, _-_, _*_, _^_}
+use Prim.Native.Nat.{ℕ, _+_, _*_, _^_}
 use mathlib.Core.List.{List, []}
 use lib.IntN.{ℤ}
 use lib.ListN.{getD}
 use mir.Syntax.{w16}
 use mir.Val.{toZ}
 use Rattle.word.specs.Written.{table}
-use Rattle.word.specs.Bytes.{be16, put}
-use Rattle.word.specs.Word.{field}
+use Rattle.word.specs.Bytes.{be16}
 use Rattle.wrap.specs.Wrap.{low16}
 use Rattle.lms.specs.Predictor.{at}
 use Rattle.lms.specs.declared.QoaLms.{QoaLms}

@@ -1,9 +1,14 @@
-// The structure of a QOA file: its headers, the frame part, the facts record.
+// The structure of a QOA file: its headers, the checks of a frame and of the end, the frame part, the facts record.
+pub mod checks;
 pub mod facts;
 pub mod file;
 pub mod frame;
 pub mod part;
+pub mod tail;
 
+pub use checks::First;
+pub use checks::Kind;
+pub use checks::check_frame;
 pub use facts::Facts;
 pub use facts::facts_of;
 pub use file::file_header;
@@ -28,3 +33,4 @@ pub use frame::slices_of;
 pub use frame::state_end;
 pub use part::frame_part;
 pub use part::part_length;
+pub use tail::tail_ok;

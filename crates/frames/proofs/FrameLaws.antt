@@ -1,7 +1,7 @@
 -- The state after what remains is dropped, and at the start of a frame, as the code leaves it. Assumes nothing.
 use mathlib.Core.Path.{_≡_, refl, ap, _∙_}
 use mathlib.Core.Bool.{Bool, true, false, cond}
-use mathlib.Core.List.{List, [], _++_}
+use mathlib.Core.List.{List}
 use mathlib.Core.Logic.{dite}
 use mathlib.Core.Option.{none, some}
 use Prim.Native.Nat.{ℕ, _+_, _*_, _≤_, _<_}
@@ -13,16 +13,14 @@ use lib.ListN.{length}
 use lib.Seq.{ext-getD}
 use Rattle.refusal.specs.Rules.{Rule, firstOf}
 use Rattle.word.specs.Written.{table, written}
-use Rattle.refusal.proofs.Rules.{fires, fires-left, fires-right, none-fires, quiet, quiet-parts}
+use Rattle.refusal.proofs.Rules.{fires}
 use Rattle.word.proofs.Tests.{tests}
 use Rattle.lms.specs.declared.QoaLms.{QoaLms}
-use Rattle.format.specs.Format.{maxChannels, slicesOf, stateEnd}
+use Rattle.format.specs.Format.{slicesOf, stateEnd}
 use Rattle.format.specs.Grammar.{tailOk}
-use Rattle.format.specs.Header.{headerAt, headerRules, leftAt}
-use Rattle.format.specs.Part.{cutRules}
+use Rattle.format.specs.Header.{headerAt, leftAt}
 use Rattle.format.specs.Predictor.{lmsAt, noLms}
 use Rattle.refusal.specs.Refusals.{numberOf}
-use Rattle.format.proofs.Headers.{passes}
 use Rattle.format.specs.declared.frame.FrameHeader.{FrameHeader}
 use Rattle.refusal.specs.declared.Refusal.{Refusal}
 use Rattle.refusal.specs.declared.Refusal.the-variants.{BadState, Truncated}
@@ -32,11 +30,9 @@ use Rattle.groups.proofs.GroupLaws.{groups-lms, groups-other, length-groups}
 use Rattle.state.specs.View.{View, factsIn, movedTo, nonePending, view}
 use Rattle.state.specs.States.{goodState}
 use Rattle.state.specs.declared.QoaDecoder.{QoaDecoder}
-use Rattle.state.specs.declared.ProcessingMode.{ProcessingMode}
-use Rattle.state.specs.declared.ProcessingMode.the-variants.{FixedSamples, Streaming}
 use Rattle.state.proofs.Views.{stored-lms}
 use Rattle.into.specs.Into.{groupsEnd}
-use Rattle.frames.specs.Frames.{NextDone, a-frame, dropped, enterRules, entered, enteredOr, foundAt, frameRules, modeRules, nextRules}
+use Rattle.frames.specs.Frames.{NextDone, a-frame, dropped, enterRules, entered, enteredOr, entryRules, foundAt, frameRead, nextRules}
 use Rattle.frames.specs.declared.NextFrame.{NextFrame}
 use Rattle.frames.specs.declared.FrameAnswer.the-variants.{Frame, End, Refused}
 use Rattle.into.proofs.Coming.{lms-after}
@@ -85,59 +81,21 @@ module _ (bs : List ℕ) (d : QoaDecoder) where
       let lms-is = stored-lms (λ j. lmsAt bs (place + 8 + 16 * j)) (d .lms) (h .channels) room in
       rw (mode-is, at-is, ← h-is) (λ i. movedTo (view d) (factsIn h) (place + stateEnd (h .channels)) (h .samples) nonePending (lms-is i))
 
--- ---- the checks of a frame, one after the other
-
-module _ (mode : ProcessingMode) (h : FrameHeader) (left : ℕ) where
-  pub frame-by-header : (n : ℕ) → firstOf (headerRules h) ≡ some n → firstOf (frameRules mode h left) ≡ some n
-  frame-by-header n e = fires-left (headerRules h) _ n e
-
-  pub frame-by-mode : (n : ℕ) → firstOf (headerRules h) ≡ none → firstOf (modeRules mode h) ≡ some n → firstOf (frameRules mode h left) ≡ some n
-  frame-by-mode n e m =
-      fires-right (headerRules h) (modeRules mode h ++ cutRules (stateEnd (h .channels)) left) e ∙ fires-left (modeRules mode h) (cutRules (stateEnd (h .channels)) left) n m
-
-  by-state : firstOf (headerRules h) ≡ none → firstOf (modeRules mode h) ≡ none → firstOf (frameRules mode h left) ≡ firstOf (cutRules (stateEnd (h .channels)) left)
-  by-state e m =
-      fires-right (headerRules h) (modeRules mode h ++ cutRules (stateEnd (h .channels)) left) e ∙ fires-right (modeRules mode h) (cutRules (stateEnd (h .channels)) left) m
-
-  pub frame-cut : firstOf (headerRules h) ≡ none → firstOf (modeRules mode h) ≡ none → left < stateEnd (h .channels) → firstOf (frameRules mode h left) ≡ some 5
-  frame-cut e m cut = by-state e m ∙ fires 0 (cutRules (stateEnd (h .channels)) left) 5 (omega (arith, tests), refl)
-
-  pub frame-whole : firstOf (headerRules h) ≡ none → firstOf (modeRules mode h) ≡ none → stateEnd (h .channels) ≤ left → firstOf (frameRules mode h left) ≡ none
-  frame-whole e m whole = by-state e m ∙ none-fires (cutRules (stateEnd (h .channels)) left) (omega (arith, tests), tt)
-
-  -- a frame that passes has few channels, and its predictor state is there
-  pub frame-passed : firstOf (frameRules mode h left) ≡ none → (0 < h .channels) × (h .channels ≤ maxChannels) × (stateEnd (h .channels) ≤ left)
-  frame-passed e =
-      let parts = quiet-parts (headerRules h) (modeRules mode h ++ cutRules (stateEnd (h .channels)) left) (quiet (frameRules mode h left) e) in
-      let rest = quiet-parts (modeRules mode h) (cutRules (stateEnd (h .channels)) left) (parts .1) in
-      let checked = passes h (parts .0) in
-      (checked .some-channels, checked .few-channels, omega (arith, tests, rest .1))
-
--- the channels and the rate of the first frame
-pub mode-streaming : (h : FrameHeader) → firstOf (modeRules Streaming h) ≡ none
-mode-streaming h = none-fires [] tt
-
-module _ (total c rate : ℕ) (h : FrameHeader) where
-  pub mode-channels : (h .channels ≡ c → ⊥) → firstOf (modeRules (FixedSamples total c rate) h) ≡ some 4
-  mode-channels other = fires 0 (modeRules (FixedSamples total c rate) h) 4 (omega (arith, tests), refl)
-
-  pub mode-rate : h .channels ≡ c → (h .rate ≡ rate → ⊥) → firstOf (modeRules (FixedSamples total c rate) h) ≡ some 4
-  mode-rate same other = fires 1 (modeRules (FixedSamples total c rate) h) 4 (omega (arith, tests), (omega (arith, tests), refl))
-
-  pub mode-same : h .channels ≡ c → h .rate ≡ rate → firstOf (modeRules (FixedSamples total c rate) h) ≡ none
-  mode-same same same-rate = none-fires (modeRules (FixedSamples total c rate) h) (omega (arith, tests), (omega (arith, tests), tt))
-
 -- ---- entering a frame, or the end
 
 module _ (bs : List ℕ) (d : QoaDecoder) (v : View) (r : NextFrame) where
-  -- the end, where that tail may be left
-  pub enter-end : leftAt bs (v .at) < 8 → r .answer ≡ End → view (r .state) ≡ v → EnterDone bs d v r
-  unfolding enterRules foundAt enteredOr tailOk firstOf
-  enter-end short answer state = let test = lt-ltb (leftAt bs (v .at)) 8 short in record { told = rw (test, answer); left = rw test state }
+  -- the end, where that tail may be left, and where it may not
+  pub enter-end : leftAt bs (v .at) < 8 → tailOk (leftAt bs (v .at)) (frameRead v) ≡ true → r .answer ≡ End → view (r .state) ≡ v → EnterDone bs d v r
+  unfolding enterRules foundAt enteredOr firstOf
+  enter-end short ok answer state = let test = lt-ltb (leftAt bs (v .at)) 8 short in record { told = rw (test, ok, answer); left = rw (test, ok) state }
+
+  pub enter-tail : leftAt bs (v .at) < 8 → tailOk (leftAt bs (v .at)) (frameRead v) ≡ false → r .answer ≡ Refused Truncated → r .state ≡ d → EnterDone bs d v r
+  unfolding enterRules firstOf
+  enter-tail short bad answer state = let test = lt-ltb (leftAt bs (v .at)) 8 short in record { told = rw (test, bad, answer); left = rw (test, bad) state }
 
   module _ (place : ℕ) (room : place + 8 ≤ length bs) (mode-is : v .mode ≡ d .mode) (at-is : v .at ≡ place) where
     abbrev rules : List Rule
-    rules = frameRules (d .mode) (headerAt bs place) (leftAt bs place)
+    rules = entryRules (d .mode) (headerAt bs place) (leftAt bs place)
 
     there : ltb (leftAt bs place) 8 ≡ false
     there = le-ltb (leftAt bs place) 8 (omega arith)

@@ -1,19 +1,21 @@
 -- Moving to the next frame. Assumes nothing.
 use Prim.Native.Nat.{ℕ, _+_, _*_}
 use mathlib.Core.Path.{_≡_}
-use mathlib.Core.Bool.{not, cond}
-use mathlib.Core.List.{List, [], _∷_, _++_}
-use lib.Dec.{eqb, ltb}
+use mathlib.Core.Bool.{Bool, true, not, cond}
+use mathlib.Core.List.{List, [], _∷_}
+use lib.Dec.{ltb}
 use lib.ListN.{length}
 use Rattle.refusal.specs.Rules.{Answer, good, refused, Rule, _gives_, after, firstOf}
 use Rattle.word.specs.Written.{table}
 use Rattle.format.specs.Format.{slicesOf, stateEnd}
 use Rattle.format.specs.Grammar.{tailOk}
-use Rattle.format.specs.Header.{headerAt, headerRules, leftAt}
-use Rattle.format.specs.Part.{cutRules}
+use Rattle.format.specs.Header.{headerAt, leftAt}
+use Rattle.format.specs.Checks.{frameRules}
 use Rattle.format.specs.Predictor.{lmsAt}
 use Rattle.refusal.specs.Refusals.{numberOf}
 use Rattle.format.specs.declared.frame.FrameHeader.{FrameHeader}
+use Rattle.format.specs.declared.checks.Kind.{Kind}
+use Rattle.format.specs.declared.checks.Kind.the-variants.{Any, Like}
 use Rattle.state.specs.View.{View, channelsOf, factsIn, movedTo, nonePending, view}
 use Rattle.state.specs.States.{goodState}
 use Rattle.state.specs.declared.QoaDecoder.{QoaDecoder}
@@ -33,25 +35,33 @@ dropped bs v = let q = slicesOf (v .remaining) in movedTo v (v .frame) (groupsEn
 
 -- ---- the frame at the place
 
--- in fixed mode, other channels or another rate than the first frame's
-abbrev pub modeRules : ProcessingMode → FrameHeader → List Rule
-modeRules (FixedSamples total c rate) h = (not (eqb (h .channels) c) gives 4) ∷ (not (eqb (h .rate) rate) gives 4) ∷ []
-modeRules Streaming h = []
+-- the frames that a decoder accepts: in fixed mode those like the first, in streaming mode any
+abbrev pub kindOf : ProcessingMode → Kind
+kindOf (FixedSamples total c rate) = Like (record { fixed = true; channels = c; rate = rate })
+kindOf Streaming = Any
 
--- 3, 6; 4; 5 where the predictor state is cut
-abbrev pub frameRules : ProcessingMode → FrameHeader → ℕ → List Rule
-frameRules mode h left = headerRules h ++ (modeRules mode h ++ cutRules (stateEnd (h .channels)) left)
+-- whether a frame was read: in fixed mode one was on opening, in streaming mode where the current frame has channels
+abbrev pub readIn : ProcessingMode → ℕ → Bool
+readIn (FixedSamples total c rate) channels = true
+readIn Streaming channels = ltb 0 channels
 
--- under 8 bytes is the end, where that tail may be left: a frame was read where the state has one
+abbrev pub frameRead : View → Bool
+frameRead v = readIn (v .mode) (channelsOf v)
+
+-- under 8 bytes is the end, where that tail may be left; never fires while `tailOk` accepts every end under 8 bytes
 abbrev pub endRules : View → ℕ → List Rule
-endRules v left = (not (tailOk left (ltb 0 (channelsOf v))) gives 5) ∷ []
+endRules v left = (not (tailOk left (frameRead v)) gives 5) ∷ []
+
+-- a frame is entered by its header and its predictor state
+abbrev pub entryRules : ProcessingMode → FrameHeader → ℕ → List Rule
+entryRules mode h left = frameRules (kindOf mode) h (stateEnd (h .channels)) left
 
 -- the rules at the place
 unfoldable pub enterRules : List ℕ → View → List Rule
 enterRules bs v =
     cond (ltb (leftAt bs (v .at)) 8)
     (endRules v (leftAt bs (v .at)))
-    (frameRules (v .mode) (headerAt bs (v .at)) (leftAt bs (v .at)))
+    (entryRules (v .mode) (headerAt bs (v .at)) (leftAt bs (v .at)))
 
 -- the state at the start of the frame at the place
 unfoldable pub entered : List ℕ → View → View

@@ -3,16 +3,16 @@ ghost use mathlib.Core.Path.{_≡_};
 ghost use mathlib.Core.Bool.{true};
 ghost use Prim.Native.Nat.{_+_, _*_, _^_, _≤_};
 ghost use lib.ListN.{length};
-ghost use Rattle.refusal.specs.Rules.{firstOf};
 ghost use Rattle.format.specs.Format.{maxChannels, slicesOf, stateEnd};
 ghost use Rattle.format.specs.Header.{headerAt};
-ghost use Rattle.refusal.specs.Refusals.{toldChecked};
 ghost use Rattle.groups.specs.Groups.{groupsStates};
 ghost use Rattle.state.specs.View.{View, view};
 ghost use Rattle.state.specs.States.{goodState};
 ghost use Rattle.into.specs.Into.{groupsEnd};
-ghost use Rattle.frames.specs.Frames.{NextDone, dropped, entered, frameRules, modeRules};
+ghost use Rattle.frames.specs.Frames.{NextDone, dropped, entered, frameRead, kindOf};
 ghost use Rattle.frames.specs.declared.FrameAnswer.the-variants.{Refused};
+use format::checks::First;
+use format::checks::Kind;
 use format::frame::FrameHeader;
 use format::frame::QOA_HEADER_SIZE;
 use format::frame::QOA_MAX_CHANNELS;
@@ -94,46 +94,37 @@ fn drop_rest(d: QoaDecoder, bytes: &[u8]) -> QoaDecoder
     state
 }
 
-// In fixed mode, the first frame's channels and rate.
-fn check_mode(mode: ProcessingMode, h: FrameHeader) -> Checked
-    ensures { λ r. ⌜ toldChecked r ≡ firstOf (modeRules mode h) ⌝ }
+// The frames that a decoder accepts.
+fn kind_of(mode: ProcessingMode) -> Kind
+    ensures { λ r. ⌜ r ≡ kindOf mode ⌝ }
 {
     match mode {
-        ProcessingMode::Streaming => Checked::Passed,
+        ProcessingMode::Streaming => Kind::Any,
         ProcessingMode::FixedSamples {
             samples: _,
             channels,
             rate,
-        } => {
-            if h.channels != channels {
-                return Checked::Refused(Refusal::IncompatibleFrame);
-            }
-            if h.rate != rate {
-                return Checked::Refused(Refusal::IncompatibleFrame);
-            }
-            Checked::Passed
-        }
+        } => Kind::Like(First {
+            fixed: true,
+            channels,
+            rate,
+        }),
     }
 }
 
-// The checks of a frame, of which so many bytes are left.
-fn check_frame(mode: ProcessingMode, h: FrameHeader, left: usize) -> Checked
-    ensures { λ r. ⌜ toldChecked r ≡ firstOf (frameRules mode h left) ⌝ }
+// Whether a frame was read.
+pub fn has_read(d: QoaDecoder) -> bool
+    ensures { λ r. ⌜ r ≡ frameRead (view d) ⌝ }
 {
-    match format::check_header(h) {
-        Checked::Refused(r) => Checked::Refused(r),
-        Checked::Passed => {
-            match check_mode(mode, h) {
-                Checked::Refused(r) => Checked::Refused(r),
-                Checked::Passed => {
-                    if left < format::state_end(h.channels as usize) {
-                        Checked::Refused(Refusal::Truncated)
-                    } else {
-                        Checked::Passed
-                    }
-                }
-            }
-        }
+    let mode = d.mode;
+    let frame = d.frame;
+    match mode {
+        ProcessingMode::Streaming => 0 < frame.channels,
+        ProcessingMode::FixedSamples {
+            samples: _,
+            channels: _,
+            rate: _,
+        } => true,
     }
 }
 
@@ -164,7 +155,9 @@ pub fn enter_frame(d: QoaDecoder, bytes: &[u8], place: usize) -> NextFrame
 {
     let h = format::read_header(bytes, place);
     let mode = d.mode;
-    match check_frame(mode, h, bytes.len() - place) {
+    let kind = kind_of(mode);
+    let need = format::state_end(h.channels as usize);
+    match format::check_frame(h, kind, need, bytes.len() - place) {
         Checked::Refused(r) => NextFrame {
             answer: FrameAnswer::Refused(r),
             state: d,
@@ -201,7 +194,11 @@ pub fn next_frame(d: QoaDecoder, bytes: &[u8]) -> NextFrame
     if bytes.len() < place {
         return refused_frame(d, Refusal::Truncated);
     }
-    if bytes.len() - place < QOA_HEADER_SIZE {
+    let left = bytes.len() - place;
+    if left < QOA_HEADER_SIZE {
+        if !format::tail_ok(left, has_read(d)) {
+            return refused_frame(d, Refusal::Truncated);
+        }
         return NextFrame {
             answer: FrameAnswer::End,
             state: drop_rest(d, bytes),

@@ -1,10 +1,9 @@
 -- Slice groups, each one slice of every channel in turn, that start at the place p of the bytes. Assumes nothing.
-use Prim.Native.Nat.{ℕ, _+_, _*_, _/_, _%_, _<_}
+use Prim.Native.Nat.{ℕ, _+_, _*_, _/_, _%_}
 use mathlib.Core.List.{List}
 use lib.IntN.{ℤ}
 use Rattle.word.specs.Written.{written}
 use Rattle.word.specs.Bytes.{be64}
-use Rattle.lms.specs.Parts.{WeightsWithin}
 use Rattle.lms.specs.declared.QoaLms.{QoaLms}
 use Rattle.format.specs.Predictor.{lmsOf}
 use Rattle.groups.specs.Channel.{channelAt, runAfter}

@@ -1,5 +1,5 @@
 -- The contract settles its call: what an answer tells is one-to-one, and any two answers that it permits are equal, with states of one view. Assumes nothing.
-use mathlib.Core.Path.{_≡_, refl, ap, sym, _∙_}
+use mathlib.Core.Path.{_≡_, ap, sym, _∙_}
 use mathlib.Core.List.{List}
 use mathlib.Core.Option.{Option, none, some}
 use Prim.Native.Nat.{ℕ}
@@ -12,7 +12,6 @@ use Rattle.state.specs.declared.QoaDecoder.{QoaDecoder}
 use Rattle.into.specs.Left.{Leaves}
 use Rattle.into.specs.Into.{IntoDone, intoAfter, intoRules}
 use Rattle.into.specs.declared.DecodedInto.{DecodedInto}
-use Rattle.refusal.specs.Refusals.{toldCount}
 use Rattle.refusal.specs.declared.CountAnswer as I
 
 -- a call hands back one state, by its view

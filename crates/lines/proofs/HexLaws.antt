@@ -1,16 +1,16 @@
 -- A hex digit and its value say the same, and the places of a byte's digits. Assumes nothing.
 use mathlib.Core.Path.{_≡_, refl, ap, sym, _∙_}
-use mathlib.Core.Bool.{Bool, true, false, _&&_, cond}
+use mathlib.Core.Bool.{Bool, true, false}
 use mathlib.Core.List.{List}
-use Prim.Native.Nat.{ℕ, zero, suc, _+_, _-_, _*_, _/_, _%_, _<_, _≤_}
+use Prim.Native.Nat.{ℕ, _+_, _-_, _*_, _/_, _%_, _<_, _≤_}
 use native.Mathlib.Omega.{arith}
 use borrow.Author.Tests.{lt-ltb, le-ltb, le-leb, lt-leb, ltb-true, ltb-false}
-use lib.Dec.{ltb, leb, eqb}
+use lib.Dec.{ltb}
 use lib.ListN.{getD, set}
 use Rattle.word.specs.Written.{written}
 use Rattle.lines.proofs.OutputLaws.{two-more}
 use Rattle.io.specs.Digits.{glyph}
-use Rattle.lines.specs.Hex.{hexValue, digitOf, half}
+use Rattle.lines.specs.Hex.{hexValue, digitOf}
 
 -- a value below ten, and one from ten on
 pub glyph-low : (v : ℕ) → v < 10 → glyph v ≡ 48 + v

@@ -3,14 +3,13 @@ use mathlib.Core.Path.{_≡_, refl}
 use mathlib.Core.Bool.{true, false}
 use mathlib.Core.Logic.{_≢_}
 use mathlib.Core.List.{List}
-use Prim.Native.Nat.{ℕ, zero, suc, _+_, _*_, _≤_, _<_}
+use Prim.Native.Nat.{ℕ, _+_, _*_, _≤_, _<_}
 use native.Mathlib.Omega.{arith}
 use borrow.Author.Tests.{eq-eqb, le-leb, lt-leb, ne-eqb}
 use lib.Dec.{eqb, leb}
 use lib.ListN.{getD, length}
 use Rattle.word.specs.Bytes.{be32}
 use Rattle.lines.specs.Parts.{isPart, partAt, PartTaken}
-use Rattle.lines.specs.declared.parts.Part.{Part}
 
 module _ (ask : List ℕ) (at kind width most : ℕ) where
   -- a test that is not met

@@ -10,7 +10,6 @@ use lib.ListN.{length}
 use Rattle.refusal.specs.Rules.{Rule, _gives_, firstOf}
 use Rattle.refusal.proofs.Rules.{none-fires, quiet, quiet-parts}
 use Rattle.lms.specs.declared.QoaLms.{QoaLms}
-use Rattle.format.specs.Format.{maxChannels}
 use Rattle.format.specs.Predictor.{lmsOf}
 use Rattle.lms.specs.Predictor.{allShort}
 use Rattle.encoder.specs.Calls.{Told, ifSome, refuses, refuses-14, wrote}

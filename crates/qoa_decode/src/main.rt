@@ -1,12 +1,12 @@
 // Reads a QOA file on standard input and writes its samples, 16-bit little-endian, on standard output.
 // A refusal is whole-file decoding's number on standard error, after the samples of the frames before it.
+use format::First;
 use format::FrameHeader;
+use format::Kind;
 use format::QOA_HEADER_SIZE;
 use refusal::Checked;
 use refusal::CountAnswer;
 use refusal::Refusal;
-use survey::First;
-use survey::Kind;
 
 // The most bytes of a whole file.
 const MOST_BYTES: u64 = format::QOA_MOST_BYTES as u64;
@@ -109,13 +109,10 @@ fn finish(run: Run, left: usize, buffer: &mut [u8]) -> Run {
     if run.channels == 0 {
         return refuse(Refusal::NoSamples, run.read, buffer);
     }
-    if 7 < left {
-        return stopped();
+    if !format::tail_ok(left, true) {
+        return refuse(Refusal::Truncated, run.read, buffer);
     }
-    match survey::check_tail(left) {
-        Checked::Passed => stopped(),
-        Checked::Refused(refusal) => refuse(refusal, run.read, buffer),
-    }
+    stopped()
 }
 
 fn write_block(block: &[i16], n: usize, bytes: &mut [u8]) -> bool {
@@ -229,16 +226,6 @@ fn body(
     rest(run, h, size, buffer, block, bytes)
 }
 
-// How much of the frame the checks may take for there: in fixed mode the predictor state is not read before them.
-fn left_for(run: Run, h: FrameHeader, part: usize) -> usize {
-    if !run.fixed {
-        if part < format::state_end(h.channels as usize) {
-            return part;
-        }
-    }
-    format::frame_length(h.channels as usize, h.samples as usize)
-}
-
 // The first frame of the file, or this one where there was none.
 fn first_for(run: Run, h: FrameHeader) -> First {
     if run.channels == 0 {
@@ -255,7 +242,8 @@ fn first_for(run: Run, h: FrameHeader) -> First {
     }
 }
 
-// A frame whose header was read: its predictor state, and the checks. Whole-file decoding's refusals come in its order.
+// A frame whose header was read: its predictor state, and the checks, which need no more than the header. Whole-file decoding's
+// refusals come in its order; whether the frame is cut is told later, as one too large comes before that.
 fn frame(run: Run, h: FrameHeader, buffer: &mut [u8], block: &mut [i16], bytes: &mut [u8]) -> Run {
     let end = format::state_end(h.channels as usize);
     if buffer.len() < end {
@@ -274,7 +262,7 @@ fn frame(run: Run, h: FrameHeader, buffer: &mut [u8], block: &mut [i16], bytes: 
     let part = QOA_HEADER_SIZE + got.count;
     let read = run.read + part as u64;
     let first = first_for(run, h);
-    match survey::check_frame(h, left_for(run, h, part), Kind::Like(first)) {
+    match format::check_frame(h, Kind::Like(first), QOA_HEADER_SIZE, part) {
         Checked::Refused(refusal) => refuse(refusal, read, buffer),
         Checked::Passed => body(run, h, part, buffer, block, bytes),
     }

@@ -6,7 +6,7 @@ use Prim.Native.Nat.{ℕ}
 use denote.Ref.{RefT, now}
 use lib.IntN.{ℤ}
 use lib.ListN.{length}
-use Rattle.refusal.specs.Rules.{after, firstOf, good, refused, unless}
+use Rattle.refusal.specs.Rules.{firstOf, good, refused, unless}
 use Rattle.refusal.proofs.Rules.{never}
 use Rattle.format.specs.Part.{partLength, partOf}
 use Rattle.refusal.specs.Refusals.{numberOf, toldCount, toldChecked}

@@ -1,6 +1,6 @@
 // The caller's bytes and a place in them. Each call takes the reader apart and leaves the work to a function over the bytes and the place.
 ghost use mathlib.Core.Path.{_≡_};
-ghost use Rattle.refusal.specs.Rules.{after, firstOf, good};
+ghost use Rattle.refusal.specs.Rules.{firstOf};
 ghost use Rattle.format.specs.Part.{partLength, partOf};
 ghost use Rattle.state.specs.Opening.{OpenLeaves, openRules};
 ghost use Rattle.reader.specs.Read.{FrameRead, IntoRead, ItemRead};

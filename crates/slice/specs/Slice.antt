@@ -1,12 +1,7 @@
 -- A slice, decoded: the predictor after each sample, and the samples. Assumes nothing.
-use mathlib.Core.Path.{_≡_}
-use mathlib.Core.List.{List, []}
-use Prim.Native.Nat.{ℕ, zero, suc, _<_}
+use Prim.Native.Nat.{ℕ, zero, suc}
 use lib.IntN.{ℤ}
-use lib.ListN.{getD}
 use Rattle.word.specs.Word.{scaleOf, codeOf}
-use Rattle.word.specs.Written.{written}
-use Rattle.ahead.specs.Parts.{gainsOf}
 use Rattle.lms.specs.Predictor.{at}
 use Rattle.lms.specs.declared.QoaLms.{QoaLms}
 use Rattle.scale.specs.Tables.{rowOf}

@@ -3,17 +3,12 @@ use Prim.Native.Nat.{ℕ, zero, suc, _*_, _<_, _≤_}
 use mathlib.Core.Path.{_≡_, refl, ap, _∙_}
 use mathlib.Core.Bool.{Bool, true, false, _&&_}
 use mathlib.Core.List.{List}
-use mathlib.Core.Logic.{dite}
-use native.Mathlib.Decide.{decLt}
 use native.Mathlib.Omega.{arith}
-use borrow.Author.Tests.{eqb-true, le-leb, leb-true, lt-ltb, ltb-true}
-use lib.Dec.{eqb, leb, ltb}
-use lib.IntN.{ℤ, natAbs, pos}
-use lib.ListN.{length, List·getD-eq-default}
-use lib.Signed.{mag}
-use mir.Syntax.{w16}
-use mir.Val.{SFits}
-use Rattle.lms.specs.Predictor.{at, allShort, historyRule}
+use borrow.Author.Tests.{eqb-true, le-leb, leb-true}
+use lib.Dec.{eqb, leb}
+use lib.IntN.{natAbs}
+use lib.ListN.{length}
+use Rattle.lms.specs.Predictor.{at, historyRule}
 use Rattle.lms.specs.declared.QoaLms.{QoaLms}
 use Rattle.format.specs.Format.{maxChannels, mostRate}
 use Rattle.format.specs.Predictor.{lmsOf}
@@ -25,7 +20,6 @@ use Rattle.state.specs.declared.ProcessingMode.the-variants.{FixedSample
 use Rattle.lms.specs.Parts.{HistoryFits, WeightsWithin}
 use Rattle.lms.proofs.Shorts.{anywhere, facts-history, history-facts}
 use Rattle.state.proofs.Views.{view-lms}
-use Rattle.word.specs.Below.{below}
 use Rattle.word.proofs.Belows.{and-both, and-left, and-right, below-all, below-at, below-ext}
 
 -- what the rules say of the mode

@@ -18,11 +18,12 @@ use Rattle.lms.specs.Parts.{HistoryFits, WeightsWithin}
 use Rattle.lms.proofs.Bounds.{within-more}
 use Rattle.format.specs.FileHeader.{fileRules, isFixed, totalOf}
 use Rattle.format.specs.Format.{stateEnd}
-use Rattle.format.specs.Header.{headerAt, headerRules, leftAt}
-use Rattle.format.specs.Part.{cutRules}
+use Rattle.format.specs.Header.{headerAt, leftAt}
 use Rattle.format.specs.Predictor.{lmsAt, lmsOf, noLms}
 use Rattle.word.proofs.Fields.{AreBytes}
-use Rattle.format.proofs.Headers.{header-small, passes}
+use Rattle.format.specs.declared.checks.Kind.the-variants.{Any}
+use Rattle.format.proofs.Checking.{checks}
+use Rattle.format.proofs.Headers.{header-small}
 use Rattle.predictors.proofs.Predictors.{read-fits, read-within}
 use Rattle.state.specs.States.{goodState, weightBound}
 use Rattle.state.specs.Opening.{firstRules, openRules, openedAt, openedFixed, openedStream}
@@ -58,7 +59,7 @@ module _ (bs : List ℕ) (bytes : AreBytes bs) where
   fixed-good some-total e =
       let h = headerAt bs 8 in
       let facts = first-facts bs e in
-      let checked = passes h (quiet-parts (headerRules h) (cutRules (stateEnd (h .channels)) (leftAt bs 8)) (quiet (firstRules bs) e .1) .0) in
+      let checked = checks Any h (stateEnd (h .channels)) (leftAt bs 8) (quiet (firstRules bs) e .1) .header in
       let small = header-small bs 8 bytes in
       record {
         place = facts .1;

@@ -2,26 +2,27 @@
 use Prim.Native.Nat.{ℕ, _+_, _-_, _*_, _≤_, _<_}
 use mathlib.Core.Path.{_≡_, refl, sym, _∙_}
 use mathlib.Core.Bool.{false, cond}
-use mathlib.Core.List.{List, [], _∷_, _++_}
+use mathlib.Core.List.{List, [], _∷_}
 use mathlib.Core.Option.{none, some}
 use native.Mathlib.Omega.{arith}
 use borrow.Author.Tests.{eq-eqb, ne-eqb}
 use lib.Dec.{ltb}
 use lib.IntN.{ℤ}
 use lib.ListN.{length}
-use Rattle.refusal.specs.Rules.{good, refused, _gives_, firstOf}
+use Rattle.refusal.specs.Rules.{Rule, good, refused, _gives_, firstOf}
 use Rattle.word.specs.Written.{table, written}
-use Rattle.refusal.proofs.Rules.{after-good, after-refused, fires, fires-left, fires-right, good-same, none-fires, quiet, quiet-parts}
+use Rattle.refusal.proofs.Rules.{after-good, after-refused, fires, fires-left, fires-right, good-same, none-fires, quiet}
 use Rattle.word.proofs.Tests.{tests}
 use Rattle.format.specs.FileHeader.{fileHeader, fileRules, isFixed, totalOf}
 use Rattle.format.specs.Format.{maxChannels, stateEnd}
-use Rattle.format.specs.Header.{headerAt, headerRules, leftAt}
-use Rattle.format.specs.Part.{cutRules}
+use Rattle.format.specs.Header.{headerAt, leftAt}
+use Rattle.format.specs.Checks.{frameRules}
 use Rattle.format.specs.Predictor.{lmsAt}
 use Rattle.refusal.specs.Refusals.{numberOf, toldChecked}
 use Rattle.format.specs.declared.frame.FrameHeader.{FrameHeader}
+use Rattle.format.specs.declared.checks.Kind.the-variants.{Any}
 use Rattle.refusal.specs.declared.Refusal.{Refusal}
-use Rattle.format.proofs.Headers.{passes}
+use Rattle.format.proofs.Checking.{checks}
 use Rattle.lms.specs.declared.QoaLms.{QoaLms}
 use Rattle.state.specs.View.{factsIn, nonePending, view, viewOf}
 use Rattle.state.specs.Opening.{OpenLeaves, firstRules, openRules, openedAt, openedFixed, openedStream, zeroState}
@@ -40,28 +41,17 @@ module _ (bs : List ℕ) where
   pub no-first : length bs - 8 < 8 → firstOf (firstRules bs) ≡ some 2
   no-first h = fires 0 (firstRules bs) 2 (omega (arith, tests))
 
-  long-first : 8 ≤ length bs - 8 → firstOf (firstRules bs) ≡ firstOf (headerRules first ++ cutRules (stateEnd (first .channels)) (leftAt bs 8))
-  long-first h = fires-right ((ltb (leftAt bs 8) 8 gives 2) ∷ []) (headerRules first ++ cutRules (stateEnd (first .channels)) (leftAt bs 8)) (none-fires ((ltb (leftAt bs 8) 8 gives 2) ∷ []) (omega (arith, tests)))
-
-  pub bad-first : (n : ℕ) → 8 ≤ length bs - 8 → firstOf (headerRules first) ≡ some n → firstOf (firstRules bs) ≡ some n
-  bad-first n h e = long-first h ∙ fires-left (headerRules first) (cutRules (stateEnd (first .channels)) (leftAt bs 8)) n e
-
-  checked-first : 8 ≤ length bs - 8 → firstOf (headerRules first) ≡ none → firstOf (firstRules bs) ≡ firstOf (cutRules (stateEnd (first .channels)) (leftAt bs 8))
-  checked-first h e = long-first h ∙ fires-right (headerRules first) (cutRules (stateEnd (first .channels)) (leftAt bs 8)) e
-
-  pub cut-first : 8 ≤ length bs - 8 → firstOf (headerRules first) ≡ none → length bs - 8 < stateEnd (first .channels) → firstOf (firstRules bs) ≡ some 5
-  cut-first h e l = checked-first h e ∙ fires 0 (cutRules (stateEnd (first .channels)) (leftAt bs 8)) 5 (omega (arith, tests))
-
-  pub whole-first : 8 ≤ length bs - 8 → firstOf (headerRules first) ≡ none → stateEnd (first .channels) ≤ length bs - 8 → firstOf (firstRules bs) ≡ none
-  whole-first h e l = checked-first h e ∙ none-fires (cutRules (stateEnd (first .channels)) (leftAt bs 8)) (omega (arith, tests))
+  pub long-first : 8 ≤ length bs - 8 → firstOf (firstRules bs) ≡ firstOf (frameRules Any first (stateEnd (first .channels)) (leftAt bs 8))
+  long-first h =
+      let some-left : List Rule = (ltb (leftAt bs 8) 8 gives 2) ∷ [] in
+      fires-right some-left (frameRules Any first (stateEnd (first .channels)) (leftAt bs 8)) (none-fires some-left (omega (arith, tests)))
 
   -- what quiet rules say
   pub first-facts : firstOf (firstRules bs) ≡ none → (first .channels ≤ maxChannels) × (8 + stateEnd (first .channels) ≤ length bs)
   unfolding stateEnd
   first-facts e =
-      let q = quiet (firstRules bs) e in
-      let parts = quiet-parts (headerRules first) (cutRules (stateEnd (first .channels)) (leftAt bs 8)) (q .1) in
-      (passes first (parts .0) .few-channels, omega (arith, tests))
+      let k = checks Any first (stateEnd (first .channels)) (leftAt bs 8) (quiet (firstRules bs) e .1) in
+      (k .header .few-channels, omega (arith, k .there))
 
   -- ---- the whole call
 

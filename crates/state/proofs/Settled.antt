@@ -14,7 +14,6 @@ use Rattle.state.specs.declared.QoaDecoder.{QoaDecoder}
 use Rattle.refusal.specs.declared.Checked as O
 use Rattle.state.specs.declared.FactsAnswer as F
 use Rattle.state.proofs.Openings.{Opens}
-use Rattle.refusal.specs.Refusals.{toldChecked}
 
 pub told-facts : (a b : F.FactsAnswer) → toldFacts a ≡ toldFacts b → a ≡ b
 told-facts = told-one toldFacts (answered F.the-variants.Known F.the-variants.Refused) (elim [ F.the-variants.Known f ↦ refl | F.the-variants.Refused r ↦ ap F.the-variants.Refused (number-back r) ])

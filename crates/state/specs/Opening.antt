@@ -12,9 +12,10 @@ use Rattle.word.specs.Written.{table}
 use Rattle.lms.specs.Predictor.{zeroLms}
 use Rattle.format.specs.Format.{maxChannels, pendingLen, stateEnd}
 use Rattle.format.specs.FileHeader.{fileRules, isFixed, totalOf}
-use Rattle.format.specs.Header.{headerAt, headerRules, leftAt}
-use Rattle.format.specs.Part.{cutRules}
+use Rattle.format.specs.Header.{headerAt, leftAt}
+use Rattle.format.specs.Checks.{frameRules}
 use Rattle.format.specs.Predictor.{lmsAt}
+use Rattle.format.specs.declared.checks.Kind.the-variants.{Any}
 use Rattle.state.specs.View.{View, factsIn, noFrame, nonePending, view, viewOf}
 use Rattle.state.specs.declared.QoaDecoder.{QoaDecoder}
 use Rattle.state.specs.declared.ProcessingMode.the-variants.{FixedSamples, Streaming}
@@ -23,7 +24,7 @@ use Rattle.state.specs.declared.ProcessingMode.the-variants.{FixedSample
 abbrev pub firstRules : List ℕ → List Rule
 firstRules bs =
     (ltb (leftAt bs 8) 8 gives 2)
-    ∷ (headerRules (headerAt bs 8) ++ cutRules (stateEnd (headerAt bs 8 .channels)) (leftAt bs 8))
+    ∷ frameRules Any (headerAt bs 8) (stateEnd (headerAt bs 8 .channels)) (leftAt bs 8)
 
 -- the file header's refusals; in fixed mode the first frame's
 unfoldable pub openRules : List ℕ → List Rule

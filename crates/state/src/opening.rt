@@ -3,11 +3,9 @@ ghost use mathlib.Core.Path.{_≡_};
 ghost use Prim.Native.Nat.{_+_, _*_, _≤_};
 ghost use lib.ListN.{length};
 ghost use Rattle.refusal.specs.Rules.{after, firstOf, good};
-ghost use Rattle.word.specs.Written.{written};
 ghost use Rattle.format.specs.FileHeader.{totalOf};
 ghost use Rattle.format.specs.Format.{maxChannels, stateEnd};
 ghost use Rattle.format.specs.Header.{headerAt, toldHeader};
-ghost use Rattle.format.specs.Predictor.{lmsAt};
 ghost use Rattle.state.specs.View.{factsIn, view};
 ghost use Rattle.refusal.specs.declared.Checked.the-variants.{Refused};
 ghost use Rattle.state.specs.Opening.{OpenLeaves, firstRules, openRules, openedFixed, openedStream, zeroState};
@@ -16,6 +14,7 @@ use crate::OpenedDecoder;
 use crate::PENDING;
 use crate::ProcessingMode;
 use crate::QoaDecoder;
+use format::checks::Kind;
 use format::frame::FrameHeader;
 use format::frame::HeaderAnswer;
 use format::frame::QOA_HEADER_SIZE;
@@ -81,15 +80,10 @@ fn first_frame(bytes: &[u8]) -> HeaderAnswer
         return HeaderAnswer::Refused(Refusal::NoSamples);
     }
     let h = format::read_header(bytes, QOA_HEADER_SIZE);
-    match format::check_header(h) {
+    let need = format::state_end(h.channels as usize);
+    match format::check_frame(h, Kind::Any, need, left) {
         Checked::Refused(r) => HeaderAnswer::Refused(r),
-        Checked::Passed => {
-            if left < format::state_end(h.channels as usize) {
-                HeaderAnswer::Refused(Refusal::Truncated)
-            } else {
-                HeaderAnswer::Good(h)
-            }
-        }
+        Checked::Passed => HeaderAnswer::Good(h),
     }
 }
 

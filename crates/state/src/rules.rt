@@ -14,7 +14,6 @@ use format::frame::QOA_MOST_RATE;
 use format::frame::QOA_SLICE_LEN;
 use lms::QOA_LMS_LEN;
 use lms::QoaLms;
-ghost use Rattle.lms.specs.Predictor.{allShort};
 
 // In fixed mode a total of at least 1, with the first frame's channels and rate in range.
 fn is_good_mode(mode: ProcessingMode) -> bool

@@ -2,27 +2,16 @@
 use Prim.Native.Nat.{ℕ, _+_}
 use mathlib.Core.Bool.{Bool}
 use mathlib.Core.List.{List, [], _∷_}
-use mathlib.Core.Option.{Option, none, some}
 use lib.Dec.{ltb}
 use lib.ListN.{length, take, drop}
-use Rattle.refusal.specs.Rules.{Answer, Rule, _gives_, after, good, _then_}
-use Rattle.format.specs.declared.frame.FrameHeader.{FrameHeader}
+use Rattle.refusal.specs.Rules.{Answer, _gives_, after, good, _then_}
+use Rattle.format.specs.declared.checks.Kind.{Kind}
+use Rattle.format.specs.declared.checks.Kind.the-variants.{Any, Like}
 use Rattle.file.specs.Walk.{WalkRules, frameAt, samplesOf, walkOf}
-use Rattle.file.specs.Whole.{Audio, audioOf, body, frameRules, wholeFile, withFirst}
-use Rattle.file.specs.Streaming.{freeFrames, freeRules}
-use Rattle.survey.specs.declared.Kind.{Kind}
-use Rattle.survey.specs.declared.Kind.the-variants.{Any, Like}
+use Rattle.file.specs.Whole.{Audio, audioOf, body, wholeFile, withFirst}
+use Rattle.file.specs.Streaming.{freeFrames}
 
--- the first of two refusals
-abbrev pub sooner : Option ℕ → Option ℕ → Option ℕ
-sooner none b = b
-sooner (some n) b = some n
-
--- the rules for a frame of a kind with the header h, of which so many bytes are left
-abbrev pub rulesFor : Kind → FrameHeader → ℕ → List Rule
-rulesFor Any h left = freeRules h left
-rulesFor (Like f) h left = frameRules (f .fixed) (f .channels) (f .rate) h left
-
+-- the rules of a walk over frames of a kind
 abbrev pub readerFor : Kind → WalkRules
 readerFor Any = freeFrames
 readerFor (Like f) = wholeFile (f .fixed) (f .channels) (f .rate)

@@ -4,107 +4,21 @@ ghost use Prim.Native.Nat.{_+_, _*_, _^_, _≤_, _<_, min};
 ghost use lib.ListN.{length, drop};
 ghost use Rattle.refusal.specs.Rules.{firstOf};
 ghost use Rattle.refusal.specs.Refusals.{toldChecked, toldCount};
-ghost use Rattle.format.specs.Part.{cutRules};
-ghost use Rattle.file.specs.Whole.{otherRules, sameRules, tailRules};
+ghost use Rattle.file.specs.Whole.{tailRules};
 ghost use Rattle.file.specs.Streaming.{noTail};
-ghost use Rattle.survey.specs.Parts.{fitAfter, fits, readerFor, rulesFor, sooner};
+ghost use Rattle.survey.specs.Parts.{fitAfter, fits, readerFor};
+use format::checks::Kind;
 use format::frame::FrameHeader;
 use format::frame::QOA_HEADER_SIZE;
 use refusal::Checked;
 use refusal::CountAnswer;
 use refusal::Refusal;
 
-// The most bytes that a file may have after its last frame.
-const MOST_TAIL: usize = 7;
-
-// A file's mode, and the channels and rate of its first frame.
-pub struct First {
-    pub fixed: bool,
-    pub channels: u8,
-    pub rate: u32,
-}
-
-// Which frames a walk accepts: any, as streaming frames, or those like the first of a file.
-pub enum Kind {
-    Any,
-    Like(First),
-}
-
-// The first of two checks that refuses.
-fn first_of(a: Checked, b: Checked) -> Checked
-    ensures { λ r. ⌜ toldChecked r ≡ sooner (toldChecked a) (toldChecked b) ⌝ }
-{
-    match a {
-        Checked::Passed => b,
-        Checked::Refused(r) => Checked::Refused(r),
-    }
-}
-
-// Something of `whole` bytes is cut where fewer are left.
-fn check_cut(whole: usize, left: usize) -> Checked
-    ensures { λ r. ⌜ toldChecked r ≡ firstOf (cutRules whole left) ⌝ }
-{
-    if left < whole {
-        return Checked::Refused(Refusal::Truncated);
-    }
-    Checked::Passed
-}
-
-// Other channels or another rate than the first frame's.
-fn check_same(h: FrameHeader, first: First) -> Checked
-    ensures { λ r. ⌜ toldChecked r ≡ firstOf (sameRules (first .channels) (first .rate) h) ⌝ }
-{
-    if h.channels != first.channels {
-        return Checked::Refused(Refusal::IncompatibleFrame);
-    }
-    if h.rate != first.rate {
-        return Checked::Refused(Refusal::IncompatibleFrame);
-    }
-    Checked::Passed
-}
-
-// A frame with a good header, of which so many bytes are left: in fixed mode it is compared with the first frame
-// before its predictor state is read, in streaming mode after.
-fn check_other(h: FrameHeader, left: usize, first: First) -> Checked
-    ensures { λ r. ⌜ toldChecked r ≡ firstOf (otherRules (first .fixed) (first .channels) (first .rate) h left) ⌝ }
-{
-    let same = check_same(h, first);
-    let state = check_cut(format::state_end(h.channels as usize), left);
-    let whole = check_cut(
-        format::frame_length(h.channels as usize, h.samples as usize),
-        left,
-    );
-    if first.fixed {
-        return first_of(first_of(same, state), whole);
-    }
-    first_of(first_of(state, same), whole)
-}
-
-// All checks of a frame of a kind, of which so many bytes are left.
-pub fn check_frame(h: FrameHeader, left: usize, kind: Kind) -> Checked
-    ensures { λ r. ⌜ toldChecked r ≡ firstOf (rulesFor kind h left) ⌝ }
-{
-    let head = format::check_header(h);
-    match kind {
-        Kind::Any => {
-            let whole = check_cut(
-                format::frame_length(h.channels as usize, h.samples as usize),
-                left,
-            );
-            first_of(head, whole)
-        }
-        Kind::Like(first) => {
-            let other = check_other(h, left, first);
-            first_of(head, other)
-        }
-    }
-}
-
 // The bytes that are left after the last frame of a file.
 pub fn check_tail(left: usize) -> Checked
     ensures { λ r. ⌜ toldChecked r ≡ firstOf (tailRules left) ⌝ }
 {
-    if MOST_TAIL < left {
+    if !format::tail_ok(left, true) {
         return Checked::Refused(Refusal::Truncated);
     }
     Checked::Passed
@@ -167,12 +81,13 @@ pub fn walk_frames(bytes: &[u8], start: usize, kind: Kind, room: usize) -> Count
     let mut need: usize = 0;
     while QOA_HEADER_SIZE <= bytes.len() - at {
         let h = format::read_header(bytes, at);
-        let checked = check_frame(h, bytes.len() - at, kind);
+        let length = format::frame_length(h.channels as usize, h.samples as usize);
+        let checked = format::check_frame(h, kind, length, bytes.len() - at);
         if let Checked::Refused(r) = checked {
             return CountAnswer::Refused(r);
         }
         need = add_capped(need, sample_count(h), room);
-        at = at + format::frame_length(h.channels as usize, h.samples as usize);
+        at = at + length;
     }
     match check_end(bytes.len() - at, kind) {
         Checked::Passed => fit_count(need, room),

@@ -1,14 +1,14 @@
 -- The ranges of what is heard and tried, and that what is tried is heard of its code.
 -- Assumes nothing.
 use mathlib.Core.Path.{_≡_, refl}
-use Prim.Native.Nat.{ℕ, _+_, _*_, _^_, _≤_, _<_}
+use Prim.Native.Nat.{ℕ, _+_, _^_, _≤_, _<_}
 use native.Mathlib.Nat.{add-le-add, le-trans, lt-of-le-of-lt, mul-le-mul}
 use lib.Dec.{lit<}
-use lib.IntN.{ℤ, natAbs, pos, _-ℤ_}
+use lib.IntN.{ℤ, natAbs, _-ℤ_}
 use mir.Syntax.{w16}
 use mir.Val.{SFits}
 use Rattle.wrap.proofs.Integers.{abs-fits, abs-sub}
-use Rattle.lms.specs.Predictor.{at, costOf, penaltyOf, updated}
+use Rattle.lms.specs.Predictor.{at, costOf}
 use Rattle.lms.specs.declared.QoaLms.{QoaLms}
 use Rattle.lms.proofs.Bounds.{clamp16-fits, penalty-small, update-fits, update-within}
 use Rattle.scale.specs.Tables.{rowOf}

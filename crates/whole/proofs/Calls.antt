@@ -2,7 +2,6 @@
 use Prim.Native.Nat.{ℕ, _+_, _≤_, _<_}
 use mathlib.Core.Path.{_≡_, refl, sym, ap, _∙_}
 use mathlib.Core.Logic.{⊎-elim}
-use mathlib.Core.Bool.{true}
 use mathlib.Core.List.{List, [], _∷_}
 use mathlib.Core.Option.{Option, none, some}
 use native.Mathlib.Nat.{zero-add}
@@ -12,13 +11,13 @@ use lib.ListN.{length, drop, length-append}
 use lib.Seq.{drop-at}
 use Rattle.refusal.specs.Rules.{Answer, firstOf, good, refused, unless, _then_}
 use Rattle.refusal.proofs.Rules.{fires, good-same, never, none-fires, then-good, then-refused}
-use Rattle.word.proofs.Tests.{notn, tests}
-use Rattle.format.specs.Grammar.{Each, IsFrame, joined, tailOk}
+use Rattle.word.proofs.Tests.{tests}
+use Rattle.format.specs.Grammar.{Each, IsFrame, joined}
+use Rattle.format.proofs.Tails.{tail-short}
 use Rattle.file.specs.Walk.{Walk, roomRules, samplesOf, walkOf}
 use Rattle.file.specs.Whole.{Audio, audioIn, audioOf, decode}
 use Rattle.file.specs.Streaming.{IsFree, fitting, freeFrames, samplesIn, streamed}
 use Rattle.file.proofs.Decoded.{holds}
-use Rattle.file.proofs.Frames.{tail-short}
 use Rattle.file.proofs.Streamed.{streamed-is}
 use Rattle.whole.specs.Told.{countIn, summaryIn, summaryOf}
 use Rattle.survey.specs.Parts.{fitAfter, fits}
@@ -83,7 +82,7 @@ audio-held b a e =
     let k = h .cut in
     let frames = k .first ∷ k .others in
     let after : drop 8 b ≡ joined frames (k .tail) = ap (drop 8) (sym (h .is-cut .bytes)) ∙ drop-at (k .head) (joined frames (k .tail)) 8 (h .is-cut .head-whole) in
-    let short = tail-short (length (k .tail)) (notn (tailOk (length (k .tail)) true) (h .is-cut .tail-ok), tt) in
+    let short = tail-short (length (k .tail)) (h .is-cut .tail-ok) in
     rw after (joined-held frames (k .tail) (each-free _ _ frames (h .is-cut .frames)) short ∙ ap (λ (z : Audio). good (z .samples)) (sym (h .audio)))
 
 module _ (room : ℕ) (b : List ℕ) where

@@ -15,9 +15,11 @@ use Rattle.format.specs.Header.{headerAt}
 use Rattle.format.specs.Part.{lengthOf}
 use Rattle.format.specs.Grammar.{Each, joined}
 use Rattle.format.specs.declared.frame.FrameHeader.{FrameHeader}
+use Rattle.format.specs.declared.checks.Kind.the-variants.{Any}
+use Rattle.format.proofs.Checking.{passed}
 use Rattle.file.specs.Frame.{countOf, frameSamples}
-use Rattle.file.specs.Walk.{Walk, pastFrame, frameAt, samplesOf, walkOf, withFrame}
-use Rattle.file.specs.Streaming.{IsFree, freeRules}
+use Rattle.file.specs.Walk.{Walk, pastFrame, frameAt, rulesAt, samplesOf, walkOf, withFrame}
+use Rattle.file.specs.Streaming.{IsFree}
 use Rattle.file.proofs.Frames.{Fit, free-fit, header-at}
 use Rattle.file.proofs.Needs.{frame-need}
 use Rattle.file.proofs.Places.{header-here}
@@ -25,8 +27,6 @@ use Rattle.file.proofs.Walks.{walks}
 use Rattle.refusal.specs.Lent.{laidOver}
 use Rattle.refusal.proofs.Lents.{length-over, over-nil, over-then}
 use Rattle.whole.specs.Parts.{HasRoom, held, heldFrames, shortTail}
-use Rattle.survey.specs.declared.Kind.the-variants.{Any}
-use Rattle.survey.proofs.FrameKinds.{passed}
 use Rattle.survey.proofs.Walking.{after-here, walk-ended, walk-on, walk-refused}
 
 -- ---- whole good frames are held
@@ -66,7 +66,7 @@ module _ (b : List ℕ) where
   held-then (refused n) = refl
   held-then (good w) = refl
 
-  by-rules : (room : ℕ) → 8 ≤ length b → HasRoom (held b) room → (o : Option ℕ) → firstOf (freeRules (headerAt b 0) (length b)) ≡ o → firstOf (freeRules (headerAt b 0) (length b)) ≡ none
+  by-rules : (room : ℕ) → 8 ≤ length b → HasRoom (held b) room → (o : Option ℕ) → firstOf (rulesAt Any b) ≡ o → firstOf (rulesAt Any b) ≡ none
   unfolding held
   by-rules room long h none e = e
   by-rules room long h (some n) e = absurd (rw (walk-refused heldFrames b long n e) at h)
@@ -74,15 +74,15 @@ module _ (b : List ℕ) where
   pub held-on : (room : ℕ) → 8 ≤ length b → HasRoom (held b) room → HeldOn b room
   unfolding held
   held-on room long h =
-      let quiet = by-rules room long h (firstOf (freeRules (headerAt b 0) (length b))) refl in
-      let p = passed Any (headerAt b 0) (length b) quiet in
+      let quiet = by-rules room long h (firstOf (rulesAt Any b)) refl in
+      let p = passed Any (headerAt b 0) (lengthOf (headerAt b 0)) (length b) quiet in
       let f = frameSamples (frameAt b) in
-      let count : length f ≡ countOf (headerAt b 0) = frame-need (frameAt b) ∙ ap countOf (header-at b (p .fits)) in
+      let count : length f ≡ countOf (headerAt b 0) = frame-need (frameAt b) ∙ ap countOf (header-at b (p .there)) in
       let same : held b ≡ withSamples f (held (pastFrame b)) = ap (λ (a : Answer Walk). a then λ w. good (samplesOf (w .frames))) (walk-on heldFrames b long quiet) ∙ held-then (walkOf heldFrames (pastFrame b)) in
       let parts = room-parts f (held (pastFrame b)) room (rw same at h) in
       record {
-        few-channels = p .few-channels;
-        whole = p .fits;
+        few-channels = p .header .few-channels;
+        whole = p .there;
         counted = count;
         fits = omega arith;
         rest = rw count at (parts .1);

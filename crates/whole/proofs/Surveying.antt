@@ -18,8 +18,8 @@ use Rattle.format.specs.Part.{lengthOf}
 use Rattle.format.specs.Grammar.{Each, IsFrame, joined}
 use Rattle.format.specs.declared.frame.FrameHeader.{FrameHeader}
 use Rattle.format.proofs.FileHeaders.{file-good}
-use Rattle.file.specs.Walk.{Walk, pastFrame, frameAt, samplesOf, walkOf, withFrame}
-use Rattle.file.specs.Whole.{audioIn, audioOf, body, bodyFor, cutOf, longRules, rulesAt, someRules, wholeFile, withFirst}
+use Rattle.file.specs.Walk.{Walk, pastFrame, frameAt, rulesAt, samplesOf, walkOf, withFrame}
+use Rattle.file.specs.Whole.{audioIn, audioOf, body, bodyFor, cutOf, likeFirst, longRules, someRules, wholeFile, withFirst}
 use Rattle.file.proofs.Accepted.{quiet-head}
 use Rattle.file.proofs.Frames.{header-at, starts, whole-file-fit}
 use Rattle.file.proofs.Walks.{walk-step, walked}
@@ -81,14 +81,14 @@ module _ (fixed : Bool) (c r : ℕ) where
 
   module _ (rest : List ℕ) (few : length rest ≤ mostBytes) (long : 8 ≤ length rest) (head : List ℕ) where
     -- by the first frame's refusal, and what the walk over the others answers
-    by-first : (o : Option ℕ) (a : Answer Walk) → firstOf (rulesAt fixed c r rest) ≡ o → walkOf (wholeFile fixed c r) (pastFrame rest) ≡ a
+    by-first : (o : Option ℕ) (a : Answer Walk) → firstOf (rulesAt (likeFirst fixed c r) rest) ≡ o → walkOf (wholeFile fixed c r) (pastFrame rest) ≡ a
         → summaryIn (unless o a then withFirst head (frameAt rest) then λ k. good (audioOf k))
         ≡ (unless o (a then withFrame (frameAt rest)) then (λ w. fits ample (0 + length (samplesOf (w .frames)))) then summary c r)
     unfolding audioOf
     by-first (some n) a eo ea = refl
     by-first none (refused n) eo ea = refl
     by-first none (good w) eo ea =
-        let s = starts fixed c r rest (quiet (rulesAt fixed c r rest) eo) in
+        let s = starts fixed c r rest (quiet (rulesAt (likeFirst fixed c r) rest) eo) in
         let same = header-at rest (s .room) in
         let all : List (List ℕ) = frameAt rest ∷ w .frames in
         let walk : walkOf (wholeFile fixed c r) rest ≡ good (record { frames = all; tail = w .tail }) = walk-on (wholeFile fixed c r) rest long eo ∙ rw ea in
@@ -106,7 +106,7 @@ surveyed fixed b h e few long =
     let R = wholeFile fixed (h .channels) (h .rate) in
     let size = length-drop 8 b in
     let there : 8 ≤ length rest = omega arith in
-    let refusal = firstOf (rulesAt fixed (h .channels) (h .rate) rest) in
+    let refusal = firstOf (rulesAt (likeFirst fixed (h .channels) (h .rate)) rest) in
     let others = walkOf R (pastFrame rest) in
     let same : body fixed rest ≡ bodyFor fixed (h .channels) (h .rate) rest = ap (λ (z : FrameHeader). bodyFor fixed (z .channels) (z .rate) rest) (header-here b 8 ∙ e) in
     let found : body fixed rest ≡ unless refusal others = same ∙ rw (none-fires (someRules rest) (omega (arith, tests))) in

@@ -5,16 +5,15 @@ use lib.Dec.{leb}
 use lib.IntN.{ℤ}
 use lib.ListN.{length}
 use Rattle.refusal.specs.Rules.{Answer, Rule, _gives_, good, refused, _then_}
-use Rattle.format.specs.Header.{headerAt}
-use Rattle.file.specs.Walk.{WalkRules, samplesOf, walkOf}
-use Rattle.file.specs.Streaming.{freeRules}
+use Rattle.format.specs.declared.checks.Kind.the-variants.{Any}
+use Rattle.file.specs.Walk.{WalkRules, rulesAt, samplesOf, walkOf}
 
 -- whole good frames, then fewer than 8 bytes
 abbrev pub shortTail : ℕ → List Rule
 shortTail left = (leb 8 left gives 5) ∷ []
 
 abbrev pub heldFrames : WalkRules
-heldFrames = record { frame = λ b. freeRules (headerAt b 0) (length b); tail = shortTail }
+heldFrames = record { frame = rulesAt Any; tail = shortTail }
 
 unfoldable pub held : List ℕ → Answer (List ℤ)
 held b = walkOf heldFrames b then λ w. good (samplesOf (w .frames))

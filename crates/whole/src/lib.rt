@@ -15,12 +15,12 @@ ghost use Rattle.refusal.specs.Refusals.{toldCount, toldSummary};
 ghost use Rattle.refusal.specs.Lent.{laidOver};
 ghost use Rattle.whole.specs.Told.{countIn, heardIn, summaryIn};
 ghost use Rattle.survey.specs.Parts.{audioAfter};
+use format::checks::First;
+use format::checks::Kind;
 use format::frame::QOA_HEADER_SIZE;
 use format::frame::QOA_MOST_BYTES;
 use held::decode_held;
 use refusal::Refusal;
-use survey::First;
-use survey::Kind;
 use survey::walk_frames;
 
 // More room than any whole file needs.

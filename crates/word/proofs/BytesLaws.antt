@@ -1,9 +1,9 @@
 -- Laws of numbers in bytes: where a number is read, how large it is, and that what was stored is what is read. Assumes nothing.
-use mathlib.Core.Path.{_≡_, refl, _∙_, ap, sym}
+use mathlib.Core.Path.{_≡_, refl, _∙_, sym}
 use mathlib.Core.List.{List, _++_}
 use mathlib.Core.Logic.{_⊎_, ⊎-elim}
-use Prim.Native.Nat.{ℕ, zero, suc, _+_, _-_, _*_, _/_, _%_, _^_, _≤_, _<_}
-use native.Mathlib.Nat.{add-zero, zero-add, add-suc, add-assoc, sub-zero, mul-one, mul-assoc, pow-suc, div-one, mod-lt, div-eq-of-lt, lt-of-lt-of-le, le-of-eq}
+use Prim.Native.Nat.{ℕ, zero, suc, _+_, _-_, _*_, _/_, _^_, _≤_, _<_}
+use native.Mathlib.Nat.{add-zero, zero-add, add-suc, add-assoc, sub-zero, mul-one, mul-assoc, pow-suc, div-one, mod-lt, div-eq-of-lt}
 use native.Mathlib.Omega.{arith}
 use lib.Dec.{lit<}
 use lib.Arith.{digits-lt}
@@ -11,7 +11,6 @@ use lib.ListN.{length, getD, take, drop, List·getD-append}
 use lib.Pow.{pow-add}
 use lib.Seq.{getD-take, getD-drop, getD-append-add}
 use Rattle.word.specs.Bytes.{be, byteOf, bytesOf, put}
-use Rattle.word.specs.Written.{table}
 use Rattle.word.proofs.Push.{next-field}
 use Rattle.word.proofs.Tables.{length-table, getD-table}
 use Rattle.word.proofs.Writes.{length-written, written-at, written-other, written-list}

@@ -1,5 +1,5 @@
 -- Laws of a slice's word: the fields of a word built from fields, whole or of a short slice, and a word built from its fields. Assumes nothing.
-use mathlib.Core.Path.{_≡_, refl, _∙_, ap, sym}
+use mathlib.Core.Path.{_≡_, refl, _∙_, ap}
 use Prim.Native.Nat.{ℕ, zero, suc, _+_, _-_, _*_, _/_, _%_, _^_, _≤_, _<_}
 use native.Mathlib.Nat.{add-zero, add-suc, zero-add, mul-one, mul-assoc, div-one, mod-eq-of-lt}
 use native.Mathlib.Omega.{arith}

@@ -1,19 +1,21 @@
 -- `frames::next_frame` meets its contract. Assumes nothing.
-use mathlib.Core.Path.{_≡_, refl, ap, sym, _∙_}
-use mathlib.Core.Bool.{true}
-use Prim.Native.Nat.{ℕ, _+_, _*_, _≤_}
+use mathlib.Core.Path.{_≡_, refl, ap, ap₂, sym, _∙_}
+use mathlib.Core.Bool.{Bool, true}
+use Prim.Native.Nat.{ℕ, _+_, _*_, _≤_, _<_}
 use native.Mathlib.Nat.{mul-le-mul}
 use native.Mathlib.Omega.{arith}
 use borrow.Author.Tests.{not-false, not-true}
 use lib.ListN.{length}
 use Rattle.format.specs.Format.{maxChannels, slicesOf}
-use Rattle.state.specs.View.{view}
+use Rattle.format.specs.Grammar.{tailOk}
+use Rattle.format.specs.Header.{leftAt}
+use Rattle.state.specs.View.{View, view}
 use Rattle.state.specs.States.{goodState}
 use Rattle.state.specs.declared.QoaDecoder.{QoaDecoder}
 use Rattle.into.specs.Into.{groupsEnd}
-use Rattle.frames.specs.Frames.{dropped}
+use Rattle.frames.specs.Frames.{dropped, frameRead}
 use Rattle.into.proofs.Counts.{slices-most}
-use Rattle.frames.proofs.FrameLaws.{enter-end, next-bad, next-cut, next-entered}
+use Rattle.frames.proofs.FrameLaws.{enter-end, enter-tail, next-bad, next-cut, next-entered}
 use Rattle.into.proofs.Sound.{Sound, sound}
 use borrow.Author.Needs.{needs}
 use Rattle.frames.proofs.next_frame.Statement.{statement}
@@ -93,27 +95,61 @@ whole : (c : tie.Else2) →
     groupsEnd (view (args .d)) (slicesOf (view (args .d) .remaining)) ≤ length (args .bytes .now)
 whole c = rw (place-is (c .before)) (c .if2 .left)
 
-sub-if3 : tie.Need-sub-if3
-sub-if3 c = search needs
+sub-left : tie.Need-sub-left
+sub-left c = search needs
+
+has-read-requires : tie.Need-has-read-requires
+has-read-requires c κs = search needs
+
+tail-ok-requires : tie.Need-tail-ok-requires
+tail-ok-requires c κs = search needs
+
+refused-frame-requires-3 : tie.Need-refused-frame-requires-3
+refused-frame-requires-3 c κs = search needs
+
+-- the end of the bytes, after what remains
+module _ (c : tie.After-tail-ok) where
+  abbrev rest : tie.Else2
+  rest = c .before .before .before
+
+  abbrev given : tie.Start
+  given = start-of (rest .before)
+
+  abbrev gone : View
+  gone = dropped (given .args .bytes .now) (view (given .args .d))
+
+  short : leftAt (given .args .bytes .now) (gone .at) < 8
+  unfolding dropped
+  short = rw (place-is (rest .before)) (c .before .before .if3 .taken)
+
+  tail-is : c .tail-ok .result ≡ tailOk (leftAt (given .args .bytes .now) (gone .at)) (frameRead gone)
+  unfolding dropped
+  tail-is = c .tail-ok .ensures ∙ ap₂ (λ (p : ℕ) (b : Bool). tailOk (leftAt (given .args .bytes .now) p) b) (sym (place-is (rest .before))) (c .before .has-read .ensures)
+
+returns-3 : tie.Need-returns-3
+returns-3 c =
+    let tail = c .before .before in
+    let args = given tail .args in
+    next-entered (args .bytes .now) (args .d) (c .refused-frame3 .result) (is-good (first-of (rest tail .before))) (whole (rest tail))
+    (enter-tail (args .bytes .now) (args .d) (gone tail) (c .refused-frame3 .result) (short tail) (sym (tail-is tail) ∙ not-true _ (c .before .if4 .taken)) (c .refused-frame3 .ensures .0) (c .refused-frame3 .ensures .1))
 
 drop-rest-requires : tie.Need-drop-rest-requires
 unfolding view
-drop-rest-requires c κs = (is-good (first-of (c .before .before)), whole (c .before))
+drop-rest-requires c κs = let tail = c .before in (is-good (first-of (rest tail .before)), whole (rest tail))
 
-returns-3 : tie.Need-returns-3
-unfolding dropped
-returns-3 c =
-    let sliced = c .before .before .before in
-    let args = start-of sliced .args in
-    next-entered (args .bytes .now) (args .d) _ (is-good (first-of sliced)) (whole (c .before .before))
-    (enter-end (args .bytes .now) (args .d) (dropped (args .bytes .now) (view (args .d))) _ (rw (place-is sliced) (c .before .if3 .taken)) refl (c .drop-rest .ensures))
+returns-4 : tie.Need-returns-4
+returns-4 c =
+    let tail = c .before .before in
+    let args = given tail .args in
+    next-entered (args .bytes .now) (args .d) _ (is-good (first-of (rest tail .before))) (whole (rest tail))
+    (enter-end (args .bytes .now) (args .d) (gone tail) _ (short tail) (sym (tail-is tail) ∙ not-false _ (c .before .if4 .left)) refl (c .drop-rest .ensures))
 
 enter-frame-requires : tie.Need-enter-frame-requires
 enter-frame-requires c κs = search needs
 
-returns-4 : tie.Need-returns-4
+returns-5 : tie.Need-returns-5
 unfolding dropped
-returns-4 c =
+returns-5 c =
     let sliced = c .before .before .before in
     let args = start-of sliced .args in
     next-entered (args .bytes .now) (args .d) (c .enter-frame .result) (is-good (first-of sliced)) (whole (c .before .before))
@@ -134,8 +170,12 @@ next-frame-spec =
     add-place
     refused-frame-requires-2
     returns-2
-    sub-if3
-    drop-rest-requires
+    sub-left
+    has-read-requires
+    tail-ok-requires
+    refused-frame-requires-3
     returns-3
+    drop-rest-requires
+    returns-4
     enter-frame-requires
-    returns-4)
+    returns-5)

@@ -6,7 +6,7 @@ use native.Mathlib.Nat.{mul-le-mul-right}
 use native.Mathlib.Omega.{arith}
 use lib.Dec.{lit<, lit≤}
 use lib.ListN.{length}
-use Rattle.format.specs.Format.{maxChannels, pendingLen}
+use Rattle.format.specs.Format.{pendingLen}
 use Rattle.lms.proofs.Bounds.{within-more}
 use Rattle.groups.specs.Groups.{groupsStates}
 use Rattle.groups.proofs.GroupLaws.{groups-more}

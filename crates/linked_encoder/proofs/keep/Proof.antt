@@ -1,6 +1,6 @@
 -- `linked_encoder::keep` meets its contract. Assumes nothing.
 use borrow.Author.Needs.{needs}
-use mathlib.Core.Path.{_≡_, sym, ap, _∙_}
+use mathlib.Core.Path.{sym, ap, _∙_}
 use Rattle.encoder.specs.Calls.{toldEncode}
 use Rattle.encoder.specs.Encoder.{encoderView}
 use Rattle.encoder.specs.declared.EncodeAnswer.{EncodeAnswer}

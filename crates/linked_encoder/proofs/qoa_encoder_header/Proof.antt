@@ -1,7 +1,6 @@
 -- `linked_encoder::qoa_encoder_header` meets its contract. Assumes nothing.
 use borrow.Author.Needs.{needs}
 use borrow.Author.Tests.{not-false, not-true}
-use native.Mathlib.Omega.{arith}
 use mathlib.Core.Bool.{true}
 use mathlib.Core.Path.{_≡_, sym, subst, ap, _∙_}
 use lib.ListN.{length}

@@ -41,7 +41,7 @@ use denote.Triple.Table.{entered, cited}
 use denote.Triple.Walked.{says, Stays, stay-none-slice, walkOf, goes-none-slice, Walks, ends-at, walked, walk-meets}
 use denote.Exit.{yes}
 use denote.Triple.Clauses.{ensured, lasts}
-use Rattle.refusal.specs.Rules.{after, firstOf, good}
+use Rattle.refusal.specs.Rules.{firstOf}
 use Rattle.state.specs.Opening.{OpenLeaves, openRules}
 use Rattle.state.specs.declared.OpenedDecoder.{OpenedDecoder}
 use Rattle.state.proofs.OpenedDecoder as G

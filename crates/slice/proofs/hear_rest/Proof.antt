@@ -7,7 +7,6 @@ use native.Mathlib.Omega.{arith}
 use Rattle.lms.specs.Parts.{WeightsWithin}
 use Rattle.lms.specs.declared.QoaLms.{QoaLms}
 use Rattle.lms.proofs.Bounds.{within-more}
-use Rattle.trial.specs.Trial.{heard}
 use Rattle.trial.specs.declared.Heard.{Heard}
 use Rattle.trial.proofs.Bounds.{heard-within}
 use Rattle.slice.specs.Slice.{residualAt, stateAfter}

@@ -3,7 +3,7 @@ use borrow.Author.Needs.{needs}
 use mathlib.Core.Path.{ap, sym, _∙_}
 use Rattle.refusal.specs.Rules.{firstOf}
 use Rattle.survey.specs.Parts.{readerFor}
-use Rattle.survey.specs.declared.Kind.{Kind}
+use Rattle.format.specs.declared.checks.Kind.{Kind}
 use Rattle.survey.proofs.check_end.Statement.{statement}
 use Rattle.survey.proofs.check_end.Tie as tie
 

@@ -1,20 +1,21 @@
--- `survey::check_tail` meets its contract: fewer than 8 bytes are a tail. Assumes nothing.
-use mathlib.Core.Path.{sym}
-use native.Mathlib.Omega.{arith}
-use lib.Dec.{ltb, lt→ltb}
-use Rattle.refusal.proofs.Rules.{fires, none-fires}
-use Rattle.word.proofs.Tests.{notn, tests}
-use Rattle.format.specs.Grammar.{tailOk}
+-- `survey::check_tail` meets its contract. Assumes nothing.
+use borrow.Author.Needs.{needs}
+use borrow.Author.Tests.{not-false, not-true}
+use mathlib.Core.Path.{sym, _∙_}
+use Rattle.refusal.specs.Rules.{firstOf}
 use Rattle.survey.proofs.check_tail.Statement.{statement}
 use Rattle.survey.proofs.check_tail.Tie as tie
 
+tail-ok-requires : tie.Need-tail-ok-requires
+tail-ok-requires c κs = search needs
+
 returns : tie.Need-returns
-unfolding tailOk
-returns c = sym (fires 0 _ 5 (omega (arith, tests)))
+unfolding firstOf
+returns c = rw (sym (c .before .tail-ok .ensures) ∙ not-true _ (c .if1 .taken))
 
 returns-2 : tie.Need-returns-2
-unfolding tailOk
-returns-2 c = let left = c .before .args .left in sym (none-fires _ (notn (ltb left 8) (lt→ltb left 8 (omega arith)), tt))
+unfolding firstOf
+returns-2 c = rw (sym (c .before .tail-ok .ensures) ∙ not-false _ (c .if1 .left))
 
 pub check-tail-spec : {M : Type 1} → statement M
-check-tail-spec = tie.close (tie.spec returns returns-2)
+check-tail-spec = tie.close (tie.spec tail-ok-requires returns returns-2)

@@ -8,10 +8,14 @@ use denote.Ref.{now}
 use lib.ListN.{length, drop}
 use Rattle.refusal.specs.Rules.{firstOf}
 use Rattle.refusal.specs.Refusals.{toldChecked}
+use Rattle.format.specs.Part.{lengthOf}
+use Rattle.format.specs.Checks.{frameRules}
+use Rattle.format.specs.declared.frame.FrameHeader.{FrameHeader}
+use Rattle.format.proofs.Checking.{passed}
 use Rattle.file.specs.Frame.{countOf}
 use Rattle.file.proofs.Frames.{frame-eight}
 use Rattle.survey.specs.Parts.{fitAfter, readerFor}
-use Rattle.survey.proofs.FrameKinds.{Whole, passed, rules-here}
+use Rattle.survey.proofs.FrameKinds.{rules-here}
 use Rattle.survey.proofs.Walking.{ended, refused-end, refused-turn, turn}
 use Rattle.survey.proofs.walk_frames.Statement.{statement}
 use Rattle.survey.proofs.walk_frames.Tie as tie
@@ -25,16 +29,29 @@ abbrev μ-loop : tie.MeasureT-loop
 
 -- the rules of the frame at `at`, once it is checked
 module _ (c : tie.After-check-frame Inv-loop μ-loop) where
+  abbrev read : tie.After-read-header Inv-loop μ-loop
+  read = c .before .before .before .before
+
+  abbrev looped : tie.At-loop Inv-loop μ-loop
+  looped = read .before .before
+
   abbrev start : tie.Start Inv-loop μ-loop
-  start = c .before .before .before .before .before
+  start = looped .before .before
 
-  rules : toldChecked (c .check-frame .result) ≡ firstOf (readerFor (start .args .kind) .frame (drop (c .before .before .before .loop .at) (now (start .args .bytes))))
-  rules = c .check-frame .ensures ∙ sym (rules-here (start .args .kind) _ _ _ (sym (c .before .read-header .ensures)))
+  abbrev head : FrameHeader
+  head = read .read-header .result
 
--- a frame that passes
-frame : (c : tie.After-enum-told Inv-loop μ-loop)
-    → Whole (c .before .before .before .read-header .result) (length (now (start (c .before .before) .args .bytes)) - c .before .before .before .before .before .loop .at)
-frame c = passed (start (c .before .before) .args .kind) _ _ (sym (c .before .before .check-frame .ensures) ∙ ap toldChecked (c .enum-told .given .1))
+  checked-by : toldChecked (c .check-frame .result) ≡ firstOf (frameRules (start .args .kind) head (lengthOf head) (length (now (start .args .bytes)) - looped .loop .at))
+  checked-by = c .check-frame .ensures ∙ ap (λ (n : ℕ). firstOf (frameRules (start .args .kind) head n (length (now (start .args .bytes)) - looped .loop .at))) (c .before .frame-length .ensures)
+
+  rules : toldChecked (c .check-frame .result) ≡ firstOf (readerFor (start .args .kind) .frame (drop (looped .loop .at) (now (start .args .bytes))))
+  rules = checked-by ∙ sym (rules-here (start .args .kind) _ _ _ (sym (read .read-header .ensures)))
+
+-- a frame that passes is whole
+frame : (c : tie.After-enum-told Inv-loop μ-loop) →
+    let checked = c .before .before in
+    lengthOf (head checked) ≤ length (now (start checked .args .bytes)) - looped checked .loop .at
+frame c = passed (start (c .before .before) .args .kind) _ _ _ (sym (checked-by (c .before .before)) ∙ ap toldChecked (c .enum-told .given .1)) .there
 
 loop-holds : tie.Need-loop-holds Inv-loop μ-loop
 loop-holds c = (omega arith, omega arith, refl)
@@ -44,6 +61,15 @@ sub-loop c = omega arith
 
 read-header-requires : tie.Need-read-header-requires Inv-loop μ-loop
 read-header-requires c κs = omega arith
+
+cast-frame-length : tie.Need-cast-frame-length Inv-loop μ-loop
+cast-frame-length c = search needs
+
+cast-frame-length-2 : tie.Need-cast-frame-length-2 Inv-loop μ-loop
+cast-frame-length-2 c = search needs
+
+frame-length-requires : tie.Need-frame-length-requires Inv-loop μ-loop
+frame-length-requires c κs = search needs
 
 sub-check-frame : tie.Need-sub-check-frame Inv-loop μ-loop
 sub-check-frame c = omega arith
@@ -57,7 +83,7 @@ enum-known-checked c = search needs
 returns : tie.Need-returns Inv-loop μ-loop
 returns c =
     let checked = c .before .before .before in
-    let loop = checked .before .before .before .loop in
+    let loop = looped checked .loop in
     sym (loop .inv .2 ∙ refused-turn _ _ _ _ (loop .at) _ (omega arith) (sym (rules checked) ∙ ap toldChecked (c .before .checked .given .1)))
 
 enum-told : tie.Need-enum-told Inv-loop μ-loop
@@ -69,38 +95,32 @@ sample-count-requires c κs = search needs
 add-capped-requires : tie.Need-add-capped-requires Inv-loop μ-loop
 add-capped-requires c κs = omega arith
 
-cast-frame-length : tie.Need-cast-frame-length Inv-loop μ-loop
-cast-frame-length c = search needs
-
-cast-frame-length-2 : tie.Need-cast-frame-length-2 Inv-loop μ-loop
-cast-frame-length-2 c = search needs
-
-frame-length-requires : tie.Need-frame-length-requires Inv-loop μ-loop
-frame-length-requires c κs = search needs
-
 add-at : tie.Need-add-at Inv-loop μ-loop
-add-at c = omega (arith, frame (c .before .before .before .before .before))
+add-at c = let told = c .before .before in omega (arith, frame told, told .before .before .before .frame-length .ensures, start (told .before .before) .good)
 
 loop-less : tie.Need-loop-less Inv-loop μ-loop
-loop-less c = omega (arith, frame (c .before .before .before .before .before), frame-eight (c .before .before .before .before .before .before .before .before .read-header .result))
+loop-less c =
+    let told = c .before .before in
+    omega (arith, frame told, told .before .before .before .frame-length .ensures, frame-eight (head (told .before .before)))
 
 loop-again : tie.Need-loop-again Inv-loop μ-loop
 loop-again c =
-    let told = c .before .before .before .before .before in
+    let told = c .before .before in
     let checked = told .before .before in
-    let loop = checked .before .before .before .loop in
+    let loop = looped checked .loop in
     let args = start checked .args in
     let R = readerFor (args .kind) in
     let s = now (args .bytes) in
     let fits = frame told in
-    let capped = c .before .before .before .add-capped in
-    let count : capped .result ≡ min (loop .need + countOf (checked .before .read-header .result)) (args .room + 1) =
-    capped .ensures ∙ ap (λ (n : ℕ). min (loop .need + n) (args .room + 1)) (c .before .before .before .before .sample-count .ensures .0) in (
-      omega (arith, fits),
+    let long = checked .before .frame-length .ensures in
+    let capped = c .add-capped in
+    let count : capped .result ≡ min (loop .need + countOf (head checked)) (args .room + 1) =
+    capped .ensures ∙ ap (λ (n : ℕ). min (loop .need + n) (args .room + 1)) (c .before .sample-count .ensures .0) in (
+      omega (arith, fits, long),
       omega arith,
       loop .inv .2
-          ∙ turn R (args .room) (loop .need) s (loop .at) (checked .before .read-header .result) (sym (checked .before .read-header .ensures)) (omega arith) (fits .fits) (sym (rules checked) ∙ ap toldChecked (told .enum-told .given .1))
-          ∙ sym (ap₂ (λ (n p : ℕ). fitAfter R (args .room) n (drop p s)) count (ap (λ (n : ℕ). loop .at + n) (c .frame-length .ensures))),
+          ∙ turn R (args .room) (loop .need) s (loop .at) (head checked) (sym (read checked .read-header .ensures)) (omega arith) fits (sym (rules checked) ∙ ap toldChecked (told .enum-told .given .1))
+          ∙ sym (ap₂ (λ (n p : ℕ). fitAfter R (args .room) n (drop p s)) count (ap (λ (n : ℕ). loop .at + n) long)),
     )
 
 sub-check-end : tie.Need-sub-check-end Inv-loop μ-loop
@@ -139,6 +159,9 @@ walk-frames-spec =
     loop-holds
     sub-loop
     read-header-requires
+    cast-frame-length
+    cast-frame-length-2
+    frame-length-requires
     sub-check-frame
     check-frame-requires
     enum-known-checked
@@ -146,9 +169,6 @@ walk-frames-spec =
     enum-told
     sample-count-requires
     add-capped-requires
-    cast-frame-length
-    cast-frame-length-2
-    frame-length-requires
     add-at
     loop-less
     loop-again

@@ -4,7 +4,6 @@ use borrow.Author.Tests.{not-false, not-true}
 use native.Mathlib.Omega.{arith}
 use mathlib.Core.Path.{_≡_, refl, sym, ap, _∙_}
 use mathlib.Core.Bool.{true}
-use Prim.Native.Nat.{ℕ}
 use Rattle.state.specs.declared.FrameFacts.{FrameFacts}
 use Rattle.block.specs.DecoderBlock.{frameIn}
 use Rattle.block.specs.Parts.{readableDecoder}

@@ -1,7 +1,6 @@
 -- `block::decoding::read_mode` meets its contract. Assumes nothing.
 use borrow.Author.Needs.{needs}
 use borrow.Author.Tests.{eq-eqb, ne-eqb}
-use mathlib.Core.Path.{sym}
 use Rattle.block.specs.DecoderBlock.{modeIn}
 use Rattle.block.proofs.decoding.read_mode.Statement.{statement}
 use Rattle.block.proofs.decoding.read_mode.Tie as tie

@@ -1,13 +1,12 @@
 -- `block::decoding::read_pending` meets its contract. The invariant: the samples passed are stored. Assumes nothing.
-use mathlib.Core.Path.{_≡_, refl, ap, _∙_}
-use Prim.Native.Nat.{_+_, _-_, _*_, _≤_, suc}
+use mathlib.Core.Path.{_≡_}
+use Prim.Native.Nat.{_+_, _-_, _≤_, suc}
 use native.Mathlib.Nat.{mul-one}
-use native.Mathlib.Numerals.{add-one}
 use native.Mathlib.Omega.{arith}
 use lib.IntN.{pos}
 use mir.Syntax.{w16}
 use Rattle.wrap.proofs.Integers.{returned}
-use Rattle.word.specs.Written.{table, written}
+use Rattle.word.specs.Written.{written}
 use Rattle.block.specs.DecoderBlock.{sampleIn}
 use Rattle.block.proofs.Holding.{stored-range}
 use Rattle.block.proofs.decoding.read_pending.Statement.{statement}

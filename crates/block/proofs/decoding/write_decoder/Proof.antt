@@ -1,6 +1,5 @@
 -- `block::decoding::write_decoder` meets its contract. Assumes nothing.
 use borrow.Author.Needs.{needs}
-use native.Mathlib.Omega.{arith}
 use Rattle.state.specs.View.{view}
 use Rattle.block.proofs.Holding.{held-pending}
 use Rattle.block.proofs.Layouts.{decoder-over}

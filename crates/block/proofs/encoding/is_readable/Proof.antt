@@ -1,6 +1,6 @@
 -- `block::encoding::is_readable` meets its contract. Assumes nothing.
 use borrow.Author.Needs.{needs}
-use borrow.Author.Tests.{eq-eqb, le-leb, lt-leb, ne-eqb}
+use borrow.Author.Tests.{eq-eqb, ne-eqb}
 use native.Mathlib.Omega.{arith}
 use Rattle.block.specs.EncoderBlock.{isEncoder}
 use Rattle.block.specs.Parts.{readableEncoder}

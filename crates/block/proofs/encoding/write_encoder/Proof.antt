@@ -1,6 +1,5 @@
 -- `block::encoding::write_encoder` meets its contract. Assumes nothing.
 use borrow.Author.Needs.{needs}
-use native.Mathlib.Omega.{arith}
 use Rattle.encoder.specs.Encoder.{encoderView}
 use Rattle.block.proofs.Layouts.{encoder-over}
 use Rattle.block.proofs.encoding.write_encoder.Statement.{statement}

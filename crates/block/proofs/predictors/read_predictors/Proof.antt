@@ -1,11 +1,10 @@
 -- `block::predictors::read_predictors` meets its contract. The invariant: the predictors passed are stored. Assumes nothing.
-use mathlib.Core.Path.{_≡_, refl, ap, _∙_}
+use mathlib.Core.Path.{_≡_, refl}
 use Prim.Native.Nat.{_+_, _-_, _*_, _≤_}
 use native.Mathlib.Nat.{mul-one, zero-add}
 use native.Mathlib.Numerals.{add-one}
 use native.Mathlib.Omega.{arith}
-use Rattle.word.specs.Written.{table, written}
-use Rattle.format.specs.Predictor.{lmsOf}
+use Rattle.word.specs.Written.{written}
 use Rattle.state.proofs.Views.{stored-lms}
 use Rattle.block.specs.Predictors.{predictorIn, predictorsIn}
 use Rattle.block.proofs.predictors.read_predictors.Statement.{statement}

@@ -5,7 +5,6 @@ use Prim.Native.Nat.{ℕ}
 use native.Mathlib.Omega.{arith}
 use lib.Dec.{T}
 use lib.Ieee.{Float, nan, inf, fin, isNan, eq}
-use Rattle.lines.specs.Bits.{bitsOfDouble}
 use Rattle.lines.proofs.answer.bits_of_double.Statement.{statement}
 use Rattle.lines.proofs.answer.bits_of_double.Tie as tie
 

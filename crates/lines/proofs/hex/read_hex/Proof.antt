@@ -1,15 +1,13 @@
 -- `lines::hex::read_hex` meets its contract. Assumes nothing.
-use mathlib.Core.Path.{_≡_, refl, ap, sym, _∙_}
-use Prim.Native.Nat.{ℕ, _+_, _*_, _≤_, _-_}
+use mathlib.Core.Path.{_≡_, refl}
+use Prim.Native.Nat.{_*_, _≤_, _-_}
 use native.Mathlib.Nat.{zero-add}
 use native.Mathlib.Omega.{arith}
-use borrow.Author.Needs.{needs}
-use lib.ListN.{length, getD, set}
+use lib.ListN.{length}
 use Rattle.word.specs.Written.{written}
 use Rattle.word.proofs.Writes.{length-written}
-use Rattle.lines.specs.Hex.{digitOf, pairAt}
-use Rattle.lines.proofs.HexLaws.{digit-first, digit-second}
-use Rattle.lines.proofs.OutputLaws.{one-more, two-more}
+use Rattle.lines.specs.Hex.{pairAt}
+use Rattle.lines.proofs.OutputLaws.{one-more}
 use Rattle.lines.proofs.hex.read_hex.Statement.{statement}
 use Rattle.lines.proofs.hex.read_hex.Tie as tie
 

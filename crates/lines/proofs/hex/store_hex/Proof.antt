@@ -1,13 +1,11 @@
 -- `lines::hex::store_hex` meets its contract. Assumes nothing.
-use mathlib.Core.Path.{_≡_, refl, ap, sym, _∙_}
-use Prim.Native.Nat.{ℕ, _+_, _*_, _≤_, _-_}
-use native.Mathlib.Numerals.{add-one}
+use mathlib.Core.Path.{_≡_, refl, ap, _∙_}
+use Prim.Native.Nat.{_*_, _≤_, _-_}
 use native.Mathlib.Omega.{arith}
-use borrow.Author.Needs.{needs}
-use lib.ListN.{length, getD, set}
+use lib.ListN.{length}
 use Rattle.word.specs.Written.{written}
 use Rattle.word.proofs.Writes.{length-written}
-use Rattle.lines.specs.Hex.{digitOf, pairAt}
+use Rattle.lines.specs.Hex.{digitOf}
 use Rattle.lines.proofs.HexLaws.{pair-more}
 use Rattle.lines.proofs.hex.store_hex.Statement.{statement}
 use Rattle.lines.proofs.hex.store_hex.Tie as tie

@@ -1,9 +1,8 @@
 -- `lines::lists::put_numbers` meets its contract. The loop's invariant: the first `i` numbers are stored. Assumes nothing.
 use mathlib.Core.Path.{_≡_, refl, ap, _∙_}
-use Prim.Native.Nat.{_*_, _≤_, _-_}
+use Prim.Native.Nat.{_≤_, _-_}
 use native.Mathlib.Numerals.{add-one}
 use native.Mathlib.Omega.{arith}
-use borrow.Author.Needs.{needs}
 use lib.ListN.{length}
 use Rattle.word.proofs.BytesLaws.{length-put}
 use Rattle.lines.specs.Lists.{numbersPut}

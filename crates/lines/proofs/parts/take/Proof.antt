@@ -1,10 +1,7 @@
 -- `lines::parts::take` meets its contract. Assumes nothing.
-use mathlib.Core.Path.{_≡_}
-use Prim.Native.Nat.{_*_, _<_, _≤_, _^_}
 use native.Mathlib.Nat.{lt-of-le-of-lt, mul-le-mul-left}
 use native.Mathlib.Omega.{arith}
 use borrow.Author.Needs.{needs}
-use lib.ListN.{length}
 use Rattle.lines.proofs.ListLaws.{too-short, other-kind, too-many, cut-off, whole}
 use Rattle.lines.proofs.parts.take.Statement.{statement}
 use Rattle.lines.proofs.parts.take.Tie as tie

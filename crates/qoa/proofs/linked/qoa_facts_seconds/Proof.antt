@@ -1,9 +1,7 @@
 -- `qoa::linked::qoa_facts_seconds` meets its contract. Assumes nothing.
 use borrow.Author.Needs.{needs}
 use mathlib.Core.Path.{_≡_, sym, ap, _∙_}
-use lib.Dec.{T}
-use lib.Ieee.{Float, binary64, inFloat, ofInt}
-use lib.IntN.{ℤ}
+use lib.Ieee.{Float, binary64, ofInt}
 use mir.Syntax.{w64}
 use mir.Val.{ofZ, toZ}
 use Rattle.refusal.specs.Rules.{Answer, good, refused, _then_}

@@ -1,11 +1,11 @@
--- `survey::first_of` meets its contract. Assumes nothing.
+-- `format::checks::first_of` meets its contract. Assumes nothing.
 use borrow.Author.Needs.{needs}
 use mathlib.Core.Path.{ap, sym}
 use Rattle.refusal.specs.Refusals.{toldChecked}
 use Rattle.refusal.specs.declared.Checked.{Checked}
-use Rattle.survey.specs.Parts.{sooner}
-use Rattle.survey.proofs.first_of.Statement.{statement}
-use Rattle.survey.proofs.first_of.Tie as tie
+use Rattle.format.specs.Parts.{sooner}
+use Rattle.format.proofs.checks.first_of.Statement.{statement}
+use Rattle.format.proofs.checks.first_of.Tie as tie
 
 enum-told : tie.Need-enum-told
 enum-told c = search needs

@@ -1,10 +1,10 @@
--- `survey::check_same` meets its contract.  Assumes nothing.
+-- `format::checks::check_same` meets its contract.  Assumes nothing.
 use mathlib.Core.Path.{sym}
 use native.Mathlib.Omega.{arith}
 use Rattle.refusal.proofs.Rules.{fires, none-fires}
 use Rattle.word.proofs.Tests.{tests}
-use Rattle.survey.proofs.check_same.Statement.{statement}
-use Rattle.survey.proofs.check_same.Tie as tie
+use Rattle.format.proofs.checks.check_same.Statement.{statement}
+use Rattle.format.proofs.checks.check_same.Tie as tie
 
 returns : tie.Need-returns
 returns c = sym (fires 0 _ 4 (omega (arith, tests)))
