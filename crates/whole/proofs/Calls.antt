@@ -2,7 +2,6 @@
 use Prim.Native.Nat.{ℕ, _+_, _≤_, _<_}
 use mathlib.Core.Path.{_≡_, refl, sym, ap, _∙_}
 use mathlib.Core.Logic.{⊎-elim}
-use mathlib.Core.Bool.{true}
 use mathlib.Core.List.{List, [], _∷_}
 use mathlib.Core.Option.{Option, none, some}
 use native.Mathlib.Nat.{zero-add}
@@ -12,7 +11,7 @@ use lib.ListN.{length, drop, length-append}
 use lib.Seq.{drop-at}
 use Rattle.refusal.specs.Rules.{Answer, firstOf, good, refused, unless, _then_}
 use Rattle.refusal.proofs.Rules.{fires, good-same, never, none-fires, then-good, then-refused}
-use Rattle.word.proofs.Tests.{notn, tests}
+use Rattle.word.proofs.Tests.{tests}
 use Rattle.format.specs.Grammar.{Each, IsFrame, joined}
 use Rattle.format.proofs.Tails.{tail-short}
 use Rattle.file.specs.Walk.{Walk, roomRules, samplesOf, walkOf}
