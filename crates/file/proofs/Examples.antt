@@ -1,7 +1,9 @@
 -- Worked examples of FORMAT.md, and orders of refusals, computed from the definitions. Assumes nothing.
 use Prim.Native.Nat.{ℕ}
 use mathlib.Core.Path.{_≡_, refl}
+use mathlib.Core.Bool.{true}
 use mathlib.Core.List.{List, [], _∷_, _++_, flatMap}
+use lib.Ieee.Bits.{is-true}
 use lib.IntN.{pos}
 use lib.ListN.{drop, replicate}
 use Rattle.word.specs.Bytes.{be}
@@ -17,6 +19,7 @@ use Rattle.format.specs.Header.{headerAt, headerRules, sizeSlices}
 use Rattle.format.specs.Predictor.{lmsAt}
 use Rattle.format.specs.Checks.{frameRules}
 use Rattle.format.specs.Grammar.{tailOk}
+use Rattle.format.proofs.Tails.{tail-none, tail-seven}
 use Rattle.slice.specs.Slice.{sampleAt, stateAfter}
 use Rattle.groups.specs.Channel.{channelAt, runAfter}
 use Rattle.groups.specs.Groups.{groupsAt}
@@ -37,8 +40,11 @@ oneSample =
 pub one-sample : (decode 1 oneSample ≡ good (record { channels = 1; rate = 44100; samples = pos 1 ∷ [] }))
     × (decode 1 (oneSample ++ replicate 7 1) ≡ good (record { channels = 1; rate = 44100; samples = pos 1 ∷ [] }))
     × (decode 0 oneSample ≡ refused 7)
-unfolding decode audioIn firstOf cutOf bodyFor walkOf walkBy fileRules frameRules headerRules headerAt frameLength slicesOf stateEnd sizeSlices tailOk be audioOf flatMap frameSamples frameStates table lmsAt groupsAt channelAt runAfter sampleAt stateAfter heard sampleOf predicted dot modulo clamp16 rowOf rowFor factorOf factors
-one-sample = (refl, refl, refl)
+unfolding decode audioIn firstOf cutOf bodyFor walkOf walkBy fileRules frameRules headerRules headerAt frameLength slicesOf stateEnd sizeSlices be audioOf flatMap frameSamples frameStates table lmsAt groupsAt channelAt runAfter sampleAt stateAfter heard sampleOf predicted dot modulo clamp16 rowOf rowFor factorOf factors
+one-sample =
+    let none-left : tailOk 0 true ≡ true = is-true (tailOk 0 true) tail-none in
+    let seven-left : tailOk 7 true ≡ true = is-true (tailOk 7 true) tail-seven in
+    (rw none-left, rw seven-left, rw none-left)
 
 -- its frame, as a run of streaming frames; no bytes give no samples; a byte left over is 5
 pub one-frame : (streamed 1 (drop 8 oneSample) ≡ good (pos 1 ∷ [])) × (streamed 0 [] ≡ good []) × (streamed 1 (drop 8 oneSample ++ (0 ∷ [])) ≡ refused 5)

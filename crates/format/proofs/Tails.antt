@@ -15,3 +15,8 @@ tail-short n ok = omega (arith, tests)
 pub tail-none : T (tailOk 0 true)
 unfolding tailOk
 tail-none = tt
+
+-- as today's rule has it, seven bytes may be left; only the worked example of one sample needs that
+pub tail-seven : T (tailOk 7 true)
+unfolding tailOk
+tail-seven = tt

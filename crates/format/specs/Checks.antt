@@ -25,6 +25,6 @@ abbrev pub kindRules : Kind → FrameHeader → ℕ → List Rule
 kindRules Any h left = []
 kindRules (Like f) h left = stateRules (f .fixed) (h .channels) left ++ sameRules (f .channels) (f .rate) h
 
--- a frame of a kind with the header h, of which the call takes `need` bytes and so many are left: 3, 6; 4; 5
+-- a frame of a kind with the header h, of which the call takes `need` bytes and so many are left: 3 and 6, then the kind's, then 5 where it is cut
 unfoldable pub frameRules : Kind → FrameHeader → ℕ → ℕ → List Rule
 frameRules kind h need left = headerRules h ++ (kindRules kind h left ++ cutRules need left)

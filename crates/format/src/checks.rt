@@ -67,7 +67,7 @@ fn check_state(fixed: bool, channels: u8, left: usize) -> Checked
     check_cut(state_end(channels as usize), left)
 }
 
-// A frame with a good header, compared with the first frame where it is to be like that.
+// A frame that is to be like the first is compared with it.
 fn check_kind(h: FrameHeader, kind: Kind, left: usize) -> Checked
     ensures { λ r. ⌜ toldChecked r ≡ firstOf (kindRules kind h left) ⌝ }
 {

@@ -11,11 +11,14 @@ use Rattle.format.specs.FileHeader.{fileRules, isFixed, totalOf}
 use Rattle.format.specs.Format.{stateEnd}
 use Rattle.format.specs.Header.{goodHeader, headerAt, headerRules, leftAt}
 use Rattle.format.specs.Part.{cutRules, lengthOf, partLength}
+use Rattle.format.specs.Checks.{frameRules, kindRules, sameRules, stateRules}
 use Rattle.format.specs.declared.frame.FrameHeader.{FrameHeader}
+use Rattle.format.specs.declared.checks.Kind.{Kind}
+use Rattle.format.specs.declared.checks.Kind.the-variants.{Any, Like}
 use Rattle.state.specs.Opening.{firstRules, openRules}
-use Rattle.file.specs.Whole.{audioIn, body, bodyFor, cutOf, decode, frameRules, inOrder, otherRules, sameRules, wholeFile, withFirst}
-use Rattle.file.specs.Streaming.{freeFrames, freeRules, samplesIn, streamed}
-use Rattle.file.specs.Walk.{WalkRules, Walk, pastFrame, ends, frameAt, step, walkBy, walkOf}
+use Rattle.file.specs.Whole.{audioIn, body, bodyFor, cutOf, decode, likeFirst, wholeFile, withFirst}
+use Rattle.file.specs.Streaming.{freeFrames, samplesIn, streamed}
+use Rattle.file.specs.Walk.{WalkRules, Walk, pastFrame, ends, frameAt, rulesAt, step, walkBy, walkOf}
 use Rattle.oneshot.specs.OneShot.{needRules}
 use Rattle.codes.specs.Codes.{coded}
 use Rattle.qoa.specs.Coded.{openedFacts}
@@ -59,20 +62,22 @@ file-numbers : (bs : List ℕ) → Numbers (fileRules bs)
 unfolding fileRules
 file-numbers bs = (low tt, (low tt, (low tt, tt)))
 
-same-numbers : (c r : ℕ) (h : FrameHeader) → Numbers (sameRules c r h)
-same-numbers c r h = (low tt, (low tt, tt))
+state-numbers : (fixed : Bool) (c left : ℕ) → Numbers (stateRules fixed c left)
+state-numbers true c left = tt
+state-numbers false c left = cut-numbers (stateEnd c) left
 
-order-numbers : (fixed : Bool) (same state : List Rule) → Numbers same → Numbers state → Numbers (inOrder fixed same state)
-order-numbers true same state p q = both same state p q
-order-numbers false same state p q = both state same q p
+kind-numbers : (kind : Kind) (h : FrameHeader) (left : ℕ) → Numbers (kindRules kind h left)
+kind-numbers Any h left = tt
+kind-numbers (Like f) h left = both (stateRules (f .fixed) (h .channels) left) (sameRules (f .channels) (f .rate) h) (state-numbers (f .fixed) (h .channels) left) (low tt, (low tt, tt))
 
-frame-numbers : (fixed : Bool) (c r : ℕ) (h : FrameHeader) (left : ℕ) → Numbers (frameRules fixed c r h left)
-unfolding frameRules otherRules
-frame-numbers fixed c r h left =
-    both (headerRules h) (otherRules fixed c r h left) (header-numbers h)
-    (both (inOrder fixed (sameRules c r h) (cutRules (stateEnd (h .channels)) left)) (cutRules (lengthOf h) left)
-    (order-numbers fixed (sameRules c r h) (cutRules (stateEnd (h .channels)) left) (same-numbers c r h) (cut-numbers (stateEnd (h .channels)) left))
-    (cut-numbers (lengthOf h) left))
+frame-numbers : (kind : Kind) (h : FrameHeader) (need left : ℕ) → Numbers (frameRules kind h need left)
+unfolding frameRules
+frame-numbers kind h need left =
+    both (headerRules h) (kindRules kind h left ++ cutRules need left) (header-numbers h)
+    (both (kindRules kind h left) (cutRules need left) (kind-numbers kind h left) (cut-numbers need left))
+
+whole-numbers : (kind : Kind) (b : List ℕ) → Numbers (rulesAt kind b)
+whole-numbers kind b = let h = headerAt b 0 in frame-numbers kind h (lengthOf h) (length b)
 
 -- ---- a walk
 
@@ -99,8 +104,7 @@ named-body : (fixed : Bool) (c r : ℕ) (b : List ℕ) → Named (bodyFor fixed 
 unfolding bodyFor
 named-body fixed c r b =
     named-after _ _ (low tt, tt)
-    (named-after _ _ (frame-numbers fixed c r (headerAt b 0) (length b))
-    (named-walk (wholeFile fixed c r) (λ x. frame-numbers fixed c r (headerAt x 0) (length x)) (λ n. (low tt, tt)) (pastFrame b)))
+    (named-after _ _ (whole-numbers (likeFirst fixed c r) b) (named-walk (wholeFile fixed c r) (whole-numbers (likeFirst fixed c r)) (λ n. (low tt, tt)) (pastFrame b)))
 
 named-cut : (b : List ℕ) → Named (cutOf b)
 unfolding cutOf
@@ -118,15 +122,11 @@ pub named-decode : (room : ℕ) (b : List ℕ) → Named (decode room b)
 unfolding decode
 named-decode room b = named-then (audioIn b) _ (named-audio b) (λ a. named-after _ (good a) (low tt, tt) tt)
 
-free-numbers : (h : FrameHeader) (left : ℕ) → Numbers (freeRules h left)
-unfolding freeRules
-free-numbers h left = both (headerRules h) (cutRules (lengthOf h) left) (header-numbers h) (cut-numbers (lengthOf h) left)
-
 pub named-streamed : (room : ℕ) (b : List ℕ) → Named (streamed room b)
 unfolding streamed samplesIn
 named-streamed room b =
     named-then (samplesIn b) _
-    (named-then (walkOf freeFrames b) _ (named-walk freeFrames (λ x. free-numbers (headerAt x 0) (length x)) (λ n. (low tt, tt)) b) (λ w. tt))
+    (named-then (walkOf freeFrames b) _ (named-walk freeFrames (whole-numbers Any) (λ n. (low tt, tt)) b) (λ w. tt))
     (λ xs. named-after _ (good xs) (low tt, tt) tt)
 
 pub named-part : (bs : List ℕ) (at : ℕ) → Named (partLength bs at)
@@ -137,10 +137,7 @@ named-part bs at =
     (λ h. named-after _ (good (lengthOf h)) (cut-numbers (lengthOf h) (leftAt bs at)) tt)
 
 first-numbers : (bs : List ℕ) → Numbers (firstRules bs)
-first-numbers bs = (
-  low tt,
-  both (headerRules (headerAt bs 8)) _ (header-numbers (headerAt bs 8)) (cut-numbers (stateEnd (headerAt bs 8 .channels)) (leftAt bs 8)),
-)
+first-numbers bs = (low tt, frame-numbers Any (headerAt bs 8) (stateEnd (headerAt bs 8 .channels)) (leftAt bs 8))
 
 by-mode : (fixed : Bool) (l : List Rule) → Numbers l → Numbers (cond fixed l [])
 by-mode true l p = p

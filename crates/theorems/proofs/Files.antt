@@ -2,10 +2,9 @@
 -- reconstruction. Assumes nothing.
 use Prim.Native.Nat.{ℕ, _≤_}
 use mathlib.Core.Path.{_≡_, refl, ap, ap₂, _∙_}
-use mathlib.Core.Bool.{true}
 use mathlib.Core.List.{List, [], _∷_, _++_, flatMap}
 use native.Mathlib.Omega.{arith}
-use lib.Dec.{T, lit<}
+use lib.Dec.{lit<}
 use lib.IntN.{ℤ}
 use lib.ListN.{length, length-append}
 use Rattle.word.specs.Bytes.{be32, bytesOf}
@@ -13,7 +12,8 @@ use Rattle.refusal.specs.Rules.{good}
 use Rattle.word.proofs.BytesLaws.{be-of-bytes}
 use Rattle.format.specs.FileHeader.{magic}
 use Rattle.format.specs.Format.{mostBytes}
-use Rattle.format.specs.Grammar.{Cut, Each, IsCut, IsFrame, joined, tailOk}
+use Rattle.format.specs.Grammar.{Cut, Each, IsCut, IsFrame, joined}
+use Rattle.format.proofs.Tails.{tail-none}
 use Rattle.file.specs.Frame.{frameSamples}
 use Rattle.file.specs.Whole.{Audio, audioOf, decode}
 use Rattle.file.proofs.Decoded.{accepts}
@@ -70,10 +70,6 @@ head-magic : (total : ℕ) → be32 (headBytes total) 0 ≡ magic
 unfolding headBytes
 head-magic total = be-of-bytes 4 magic (bytesOf 4 total) (lit< tt)
 
-none-ok : T (tailOk 0 true)
-unfolding tailOk
-none-ok = tt
-
 -- ---- the file
 
 module _ (total : ℕ) (v : EncoderView) (first : List ℤ) (others : List (List ℤ)) (a : AllTaken v (first ∷ others)) where
@@ -90,7 +86,7 @@ module _ (total : ℕ) (v : EncoderView) (first : List ℤ) (others : List (List
         head-whole = length-head total;
         head-magic = head-magic total;
         frames = rw (frames .0 .same-channels, frames .0 .same-rate) frames;
-        tail-ok = none-ok;
+        tail-ok = tail-none;
         bytes = ap (λ (b : List ℕ). headBytes total ++ b) (frames-joined v (first ∷ others));
       }
 
