@@ -1,7 +1,7 @@
 -- Laws of blocks that are laid one after another. Assumes nothing.
 use Prim.Native.Nat.{ℕ, zero, suc, _+_, _*_, _≤_, _<_}
 use mathlib.Core.Path.{_≡_, refl, ap₂, _∙_}
-use mathlib.Core.List.{List}
+use mathlib.Core.List.{List, _++_}
 use native.Mathlib.Nat.{mul-one, zero-add}
 use native.Mathlib.Omega.{arith}
 use lib.Dec.{lit<}
