@@ -15,7 +15,7 @@ use Rattle.wrap.specs.Wrap.{low16, low32}
 use Rattle.wrap.proofs.Modulo.{modulo-lt}
 use Rattle.wrap.proofs.Patterns.{read-low}
 use Rattle.word.specs.Bytes.{be, be16, be32, be64, bytesOf}
-use Rattle.word.specs.Written.{table}
+use Rattle.word.specs.Table.{table}
 use Rattle.word.proofs.BytesLaws.{be-append, be-of, be-past, byte-at, length-bytes}
 use Rattle.word.proofs.Tables.{table-ext, table-of}
 use Rattle.lms.specs.Predictor.{at}

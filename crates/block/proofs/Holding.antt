@@ -11,7 +11,7 @@ use lib.IntN.{ℤ, pos}
 use lib.ListN.{getD, length, List·getD-eq-default}
 use Rattle.wrap.specs.Wrap.{low16}
 use Rattle.word.specs.Bytes.{bytesOf}
-use Rattle.word.specs.Written.{table, written}
+use Rattle.word.specs.Table.{table}
 use Rattle.word.proofs.Tables.{getD-table, length-table, table-ext}
 use Rattle.word.proofs.Writes.{written-at}
 use Rattle.lms.specs.declared.QoaLms.{QoaLms}
@@ -24,6 +24,7 @@ use Rattle.state.specs.View.{view}
 use Rattle.state.specs.declared.QoaDecoder.{QoaDecoder}
 use Rattle.block.specs.DecoderBlock.{pendingAt, pendingBytes}
 use Rattle.block.specs.Predictors.{fourBytes, predictorBytes}
+use Rattle.word.specs.Parts.{written}
 
 -- ---- predictors
 

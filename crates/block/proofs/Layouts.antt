@@ -7,7 +7,7 @@ use native.Mathlib.Omega.{arith}
 use lib.IntN.{ℤ}
 use lib.ListN.{length, length-append}
 use Rattle.wrap.specs.Wrap.{low16, low32}
-use Rattle.word.specs.Bytes.{bytesOf, put}
+use Rattle.word.specs.Bytes.{bytesOf}
 use Rattle.word.proofs.BytesLaws.{length-bytes}
 use Rattle.lms.specs.Predictor.{at}
 use Rattle.lms.specs.declared.QoaLms.{QoaLms}
@@ -26,6 +26,7 @@ use Rattle.refusal.proofs.Lents.{over-put, over-then, then-put}
 use Rattle.block.specs.Predictors.{fourBytes, predictorBytes, predictorsBytes}
 use Rattle.block.specs.DecoderBlock.{decoderBytes, decoderSize, fixedBytes, factsBytes, modeBytes, pendingAt, pendingBytes, restBytes}
 use Rattle.block.specs.EncoderBlock.{encoderBytes, encoderSize}
+use Rattle.word.specs.Parts.{put}
 
 -- ---- predictors
 

@@ -9,7 +9,7 @@ use lib.Dec.{eqb, leb}
 use lib.IntN.{pos}
 use lib.ListN.{getD, length}
 use Rattle.word.specs.Bytes.{be16, be32, be64}
-use Rattle.word.specs.Written.{table}
+use Rattle.word.specs.Table.{table}
 use Rattle.format.specs.Format.{maxChannels, pendingLen}
 use Rattle.format.specs.Predictor.{lmsOf}
 use Rattle.state.specs.View.{view}

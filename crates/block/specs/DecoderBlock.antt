@@ -9,7 +9,7 @@ use mir.Syntax.{w16}
 use mir.Val.{toZ}
 use Rattle.wrap.specs.Wrap.{low16}
 use Rattle.word.specs.Bytes.{be16, be32, be64, bytesOf}
-use Rattle.word.specs.Written.{table}
+use Rattle.word.specs.Table.{table}
 use Rattle.format.specs.Format.{maxChannels, pendingLen}
 use Rattle.body.specs.Laid.{laid}
 use Rattle.state.specs.View.{View}

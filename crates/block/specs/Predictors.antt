@@ -6,7 +6,7 @@ use mir.Syntax.{w32}
 use mir.Val.{toZ}
 use Rattle.wrap.specs.Wrap.{low32}
 use Rattle.word.specs.Bytes.{be32, bytesOf}
-use Rattle.word.specs.Written.{table}
+use Rattle.word.specs.Table.{table}
 use Rattle.lms.specs.Predictor.{at}
 use Rattle.lms.specs.declared.QoaLms.{QoaLms}
 use Rattle.format.specs.Format.{maxChannels}

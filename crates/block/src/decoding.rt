@@ -6,7 +6,7 @@ ghost use lib.Dec.{ltb};
 ghost use lib.IntN.{pos};
 ghost use lib.ListN.{getD, length};
 ghost use Rattle.word.specs.Bytes.{bytesOf};
-ghost use Rattle.word.specs.Written.{table};
+ghost use Rattle.word.specs.Table.{table};
 ghost use Rattle.format.specs.Format.{maxChannels, pendingLen};
 ghost use Rattle.state.specs.View.{view};
 ghost use Rattle.refusal.specs.Rules.{good};

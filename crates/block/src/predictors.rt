@@ -6,7 +6,7 @@ ghost use lib.ListN.{length};
 ghost use mir.Syntax.{w32};
 ghost use mir.Val.{toZ};
 ghost use Rattle.word.specs.Bytes.{be32};
-ghost use Rattle.word.specs.Written.{table};
+ghost use Rattle.word.specs.Table.{table};
 ghost use Rattle.format.specs.Format.{maxChannels};
 ghost use Rattle.format.specs.Predictor.{lmsOf};
 ghost use Rattle.lms.specs.Predictor.{zeroLms};

@@ -32,7 +32,7 @@ use Rattle.state.proofs.GoodStates.{Good, facts-good, good-facts}
 use Rattle.state.proofs.OpenedStates.{read-good}
 use Rattle.into.specs.Into.{pendingTo, groupsEnd, groupsFor, groupsLms, groupsSamples, intoAfter, intoCount, intoGroups, intoRules, pendingFrom, takenFrom}
 use Rattle.frames.specs.Frames as Frames
-use Rattle.frames.specs.Frames.{dropped, enterRules, entered, enteredOr, entryRules, kindOf, nextRules}
+use Rattle.frames.specs.Frames.{pastRest, enterRules, entered, enteredOr, entryRules, kindOf, nextRules}
 use Rattle.decoder.specs.Items.{Turn, first-header, from-group, from-next, from-pending, itemAfter, itemRules, settled, turnAfter, turnOf, turnRules}
 use Rattle.into.proofs.Counts.{slices-cover}
 use Rattle.format.proofs.Checking.{passed}
@@ -84,8 +84,8 @@ module _ (bs : List ℕ) (v : View) (g : Good v (length bs)) (few : v .remaining
       }
 
   -- all that remains, dropped
-  pub dropped-good : groupsEnd v (slicesOf (v .remaining)) ≤ length bs → Good (dropped bs v) (length bs)
-  unfolding dropped
+  pub dropped-good : groupsEnd v (slicesOf (v .remaining)) ≤ length bs → Good (pastRest bs v) (length bs)
+  unfolding pastRest
   dropped-good whole =
       let all : v .remaining - groupsSamples v (slicesOf (v .remaining)) ≡ 0 = all-samples (v .remaining) in
       record {
@@ -175,7 +175,7 @@ module _ (bs : List ℕ) (bytes : AreBytes bs) (v : View) (small : v .frame .sam
       let q = quiet (nextRules bs v) e in
       let g = good-facts v (length bs) (is-true (goodState v (length bs)) (q .0)) in
       let d = dropped-good bs v g (few bs v small g) (omega (arith, tests)) in
-      facts-good (Frames.nextAfter bs v) (length bs) (entered-or-good bs bytes (dropped bs v) d (none-fires (enterRules bs (dropped bs v)) (q .1 .1)))
+      facts-good (Frames.nextAfter bs v) (length bs) (entered-or-good bs bytes (pastRest bs v) d (none-fires (enterRules bs (pastRest bs v)) (q .1 .1)))
 
   -- ---- the item step
 

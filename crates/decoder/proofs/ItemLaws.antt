@@ -11,7 +11,7 @@ use lib.Dec.{ltb}
 use lib.IntN.{ℤ, pos}
 use lib.ListN.{getD, length}
 use Rattle.refusal.specs.Rules.{Answer, good, refused, firstOf, unless}
-use Rattle.word.specs.Written.{table, written}
+use Rattle.word.specs.Table.{table}
 use Rattle.refusal.proofs.Rules.{fires, good-same, never, none-fires, refused-one}
 use Rattle.word.proofs.Tests.{tests}
 use Rattle.word.proofs.Writes.{written-at}
@@ -31,6 +31,7 @@ use Rattle.into.proofs.Counts.{groups-one}
 use Rattle.into.proofs.Coming.{coming-pending}
 use Rattle.frames.specs.Parts.{EnterDone}
 use Rattle.decoder.specs.Parts.{TurnDone}
+use Rattle.word.specs.Parts.{written}
 
 -- a state with no sample pending
 pub view-settled : (d : QoaDecoder)

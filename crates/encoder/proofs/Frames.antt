@@ -8,7 +8,7 @@ use native.Mathlib.Omega.{arith}
 use lib.Dec.{lit<}
 use lib.IntN.{ℤ}
 use lib.ListN.{length, length-append}
-use Rattle.word.specs.Bytes.{bytesOf, put}
+use Rattle.word.specs.Bytes.{bytesOf}
 use Rattle.word.proofs.BytesLaws.{length-bytes}
 use Rattle.word.proofs.Tables.{getD-table, length-table, table-ext}
 use Rattle.lms.specs.Parts.{WeightsWithin}
@@ -31,6 +31,7 @@ use Rattle.encoder.proofs.GoodEncoders.{Good, facts-good, view-lms}
 use Rattle.body.proofs.Laids.{laid-ext, length-laid, length-states, length-words}
 use Rattle.refusal.proofs.Lents.{over-put, over-then}
 use Rattle.encoder.proofs.Wides.{short-within, wide-ext, wide-none}
+use Rattle.word.specs.Parts.{put}
 
 -- ---- lengths
 

@@ -4,8 +4,8 @@ use mathlib.Core.Path.{_≡_, ap, _∙_}
 use mathlib.Core.List.{List, [], _∷_, _++_}
 use native.Mathlib.Omega.{arith}
 use lib.ListN.{length, length-append}
-use Rattle.word.specs.Bytes.{byteOf, bytesOf, put}
-use Rattle.word.specs.Written.{table}
+use Rattle.word.specs.Bytes.{byteOf, bytesOf}
+use Rattle.word.specs.Parts.{put}
 use Rattle.word.proofs.BytesLaws.{length-bytes}
 use Rattle.format.specs.FileHeader.{magic}
 use Rattle.refusal.specs.Rules.{good}
@@ -13,6 +13,7 @@ use Rattle.refusal.specs.Lent.{laidOver}
 use Rattle.refusal.proofs.Lents.{over-put}
 use Rattle.encoder.specs.Head.{headBytes}
 use Rattle.format.specs.Parts.{fileWord}
+use Rattle.word.specs.Table.{table}
 
 -- the word's upper half is `qoaf`, and its lower half has the total's bytes
 module _ (total : ℕ) (h : total < 2 ^ 32) where

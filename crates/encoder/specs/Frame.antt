@@ -8,7 +8,7 @@ use lib.IntN.{ℤ}
 use lib.ListN.{length}
 use Rattle.word.specs.Bytes.{bytesOf}
 use Rattle.refusal.specs.Rules.{Rule, _gives_}
-use Rattle.word.specs.Written.{table}
+use Rattle.word.specs.Table.{table}
 use Rattle.lms.specs.declared.QoaLms.{QoaLms}
 use Rattle.format.specs.Format.{frameLen, frameLength, slicesOf}
 use Rattle.format.specs.Header.{headerWord}

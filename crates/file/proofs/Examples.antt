@@ -8,7 +8,7 @@ use lib.IntN.{pos}
 use lib.ListN.{drop, replicate}
 use Rattle.word.specs.Bytes.{be}
 use Rattle.refusal.specs.Rules.{firstOf, good, refused}
-use Rattle.word.specs.Written.{table}
+use Rattle.word.specs.Table.{table}
 use Rattle.wrap.specs.Wrap.{modulo}
 use Rattle.lms.specs.Predictor.{clamp16, dot, predicted}
 use Rattle.scale.specs.Tables.{factorOf, factors, rowFor, rowOf}

@@ -20,7 +20,8 @@ use Rattle.format.proofs.Checking.{Same, checks, like-same, quiet-checks, same-
 use Rattle.format.proofs.Tails.{tail-short}
 use Rattle.file.specs.Walk.{WalkRules, pastFrame, frameAt, rulesAt}
 use Rattle.file.specs.Whole.{likeFirst, wholeFile}
-use Rattle.file.specs.Streaming.{IsFree, freeFrames}
+use Rattle.file.specs.Streaming.{freeFrames}
+use Rattle.file.specs.Parts.{IsFree}
 
 pub frame-eight : (h : FrameHeader) → 8 ≤ lengthOf h
 unfolding frameLength stateEnd

@@ -6,7 +6,7 @@ use native.Mathlib.Nat.{add-zero, mod-lt, mul-le-mul-right, mul-one, mul-zero, n
 use native.Mathlib.Omega.{arith}
 use lib.IntN.{ℤ}
 use lib.ListN.{length, take, drop}
-use Rattle.word.specs.Written.{table, written}
+use Rattle.word.specs.Table.{table}
 use Rattle.word.proofs.Tables.{getD-table, table-ext}
 use Rattle.word.proofs.Writes.{written-at}
 use Rattle.lms.specs.declared.QoaLms.{QoaLms}
@@ -25,6 +25,7 @@ use Rattle.file.specs.Frame.{countOf, frameSamples, frameStates}
 use Rattle.file.specs.Walk.{frameAt}
 use Rattle.file.proofs.Frames.{header-at}
 use Rattle.groups.specs.Parts.{AllWithin}
+use Rattle.word.specs.Parts.{written}
 
 -- the header at the start of what is left from a place on
 pub header-here : (b : List ℕ) (at : ℕ) → headerAt (drop at b) 0 ≡ headerAt b at

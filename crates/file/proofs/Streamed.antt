@@ -10,9 +10,10 @@ use Rattle.refusal.proofs.Rules.{Quiet, none-fires, after-good, then-good, good
 use Rattle.word.proofs.Tests.{tests}
 use Rattle.format.specs.Grammar.{Each, joined}
 use Rattle.file.specs.Walk.{Walk, roomRules, samplesOf, walkOf}
-use Rattle.file.specs.Streaming.{IsFree, fitting, freeFrames, samplesIn, streamed}
+use Rattle.file.specs.Streaming.{fitting, freeFrames, samplesIn, streamed}
 use Rattle.file.proofs.Frames.{free-fit}
 use Rattle.file.proofs.Walks.{walked, walks}
+use Rattle.file.specs.Parts.{IsFree}
 
 -- the bytes cut into whole good frames
 pub record Split (b : List ℕ) (fs : List (List ℕ)) : Type 0 where

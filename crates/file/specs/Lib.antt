@@ -3,3 +3,4 @@ pub mod Frame
 pub mod Walk
 pub mod Whole
 pub mod Streaming
+pub mod Parts

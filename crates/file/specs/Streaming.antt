@@ -1,22 +1,12 @@
 -- Streaming frames: whole frames one after another, with channel changes allowed. Assumes nothing.
 use Prim.Native.Nat.{ℕ}
-use mathlib.Core.Path.{_≡_}
 use mathlib.Core.Bool.{not}
 use mathlib.Core.List.{List, [], _∷_}
 use lib.Dec.{eqb}
 use lib.IntN.{ℤ}
-use lib.ListN.{length}
 use Rattle.refusal.specs.Rules.{Answer, good, Rule, _gives_, after, _then_}
-use Rattle.format.specs.Header.{headerAt}
-use Rattle.format.specs.Part.{lengthOf}
-use Rattle.format.specs.Grammar.{Passes}
 use Rattle.format.specs.declared.checks.Kind.the-variants.{Any}
 use Rattle.file.specs.Walk.{WalkRules, roomRules, rulesAt, samplesOf, walkOf}
-
--- exactly the bytes of a frame, of any channels and rate
-pub record IsFree (f : List ℕ) : Type 0 where
-  pub passes : Passes (headerAt f 0)
-  pub whole : length f ≡ lengthOf (headerAt f 0)
 
 -- 1 to 7 bytes left over are 5
 abbrev pub noTail : ℕ → List Rule

@@ -9,9 +9,9 @@ use Rattle.word.specs.Bytes.{be32, be64}
 use Rattle.word.proofs.BytesLaws.{be-lt-bits, be-join}
 use Rattle.refusal.proofs.Rules.{FiresAt, Quiet, after-good, good-after, good-same, refused-at}
 use Rattle.word.proofs.Tests.{tests}
-use Rattle.format.specs.FileHeader.{magic, totalOf, fileRules, fileHeader}
+use Rattle.format.specs.FileHeader.{magic, totalOf, fileRules}
 use Rattle.word.proofs.Fields.{AreBytes, Stored, stored-field}
-use Rattle.format.specs.Parts.{fileWord}
+use Rattle.format.specs.Parts.{fileWord, fileHeader}
 
 -- the upper and the lower half of the word of 8 bytes
 pub magic-of : (bs : List ℕ) → AreBytes bs → be64 bs 0 / 2 ^ 32 ≡ be32 bs 0

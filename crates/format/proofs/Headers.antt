@@ -8,7 +8,7 @@ use native.Mathlib.Omega.{arith}
 use lib.ListN.{length, getD, take, drop, List·getD-append}
 use lib.Seq.{getD-take, getD-drop, getD-append-add}
 use Rattle.refusal.specs.Rules.{Answer, good, refused, firstOf, after}
-use Rattle.word.specs.Bytes.{be, be64, bytesOf, put}
+use Rattle.word.specs.Bytes.{be, be64, bytesOf}
 use Rattle.word.proofs.BytesLaws.{be-ext, be-lt-bits, byte-at, length-bytes, put-at}
 use Rattle.refusal.proofs.Rules.{Quiet, after-good, good-after, good-same, refused-at}
 use Rattle.word.proofs.Tests.{tests}
@@ -18,6 +18,7 @@ use Rattle.format.specs.Grammar.{Passes}
 use Rattle.format.specs.declared.frame.FrameHeader.{FrameHeader}
 use Rattle.word.proofs.Fields.{AreBytes, Stored, be-field, stored-field}
 use Rattle.format.specs.Parts.{headerFields}
+use Rattle.word.specs.Parts.{put}
 
 -- ---- where a header is read: it is that of its 8 bytes
 

@@ -5,7 +5,7 @@ use mathlib.Core.List.{List, [], _∷_}
 use lib.Dec.{eqb, ltb}
 use lib.ListN.{length}
 use Rattle.word.specs.Bytes.{be32}
-use Rattle.refusal.specs.Rules.{Answer, good, Rule, _gives_, after}
+use Rattle.refusal.specs.Rules.{Rule, _gives_}
 
 -- `qoaf`
 abbrev pub magic : ℕ
@@ -25,7 +25,3 @@ fileRules bs =
     ∷ (not (eqb (be32 bs 0) magic) gives 1)
     ∷ (ltb (length bs) 8 gives 5)
     ∷ []
-
--- the total, or the refusal
-unfoldable pub fileHeader : List ℕ → Answer ℕ
-fileHeader bs = after (fileRules bs) (good (totalOf bs))

@@ -1,4 +1,18 @@
 -- The format's numbers and lengths. Assumes nothing.
+--
+--   file    0        4         8
+--           | 'qoaf' |  total  |   frame   |   frame   |  ..  |   frame   |  tail: 0 to 7 bytes
+--
+--   frame   0     1        4       6        8             24               8+16c                     8+24c
+--           |  c  |  rate  |   n   |  size  |  state of   |  states of     |  a slice group:         |  the next groups ..
+--           |  8  |   24   |  16   |   16   |  channel 0  |  channels 1 .. |  a slice of each        |
+--           | bits|  bits  |  bits |  bits  |  16 bytes   |  16 bytes each |  channel, 8 bytes each  |
+--
+--   state   0      2      4      6      8      10     12     14
+--           |  h0  |  h1  |  h2  |  h3  |  w0  |  w1  |  w2  |  w3  |    history and weights, signed 16-bit numbers
+--
+--   slice   bits 63..60      59..57   56..54        2..0
+--           | scale factor | code 0 | code 1 | .. | code 19 |
 use Prim.Native.Nat.{ℕ, _+_, _-_, _*_, _/_}
 
 -- the most channels that a frame may have

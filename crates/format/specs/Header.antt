@@ -5,12 +5,9 @@ use mathlib.Core.List.{List, [], _∷_}
 use lib.Dec.{eqb, leb, ltb}
 use lib.ListN.{length}
 use Rattle.word.specs.Bytes.{be8, be16, be24}
-use Rattle.refusal.specs.Rules.{Answer, good, refused, Rule, _gives_, after}
+use Rattle.refusal.specs.Rules.{Answer, good, Rule, _gives_, after}
 use Rattle.format.specs.Format.{maxChannels, slicesPerFrame, stateEnd}
-use Rattle.refusal.specs.Refusals.{numberOf}
 use Rattle.format.specs.declared.frame.FrameHeader.{FrameHeader}
-use Rattle.format.specs.declared.frame.HeaderAnswer.{HeaderAnswer}
-use Rattle.format.specs.declared.frame.HeaderAnswer.the-variants.{Good, Refused}
 
 -- channels c (8 bits), rate (24), samples per channel n (16), size (16)
 unfoldable pub headerAt : List ℕ → ℕ → FrameHeader
@@ -48,8 +45,3 @@ shortRules left = (ltb left 8 gives 5) ∷ []
 -- the header, or the refusal
 unfoldable pub goodHeader : List ℕ → ℕ → Answer FrameHeader
 goodHeader bs p = after (shortRules (leftAt bs p)) (after (headerRules (headerAt bs p)) (good (headerAt bs p)))
-
--- what the code's answer tells
-abbrev pub toldHeader : HeaderAnswer → Answer FrameHeader
-toldHeader (Good h) = good h
-toldHeader (Refused r) = refused (numberOf r)

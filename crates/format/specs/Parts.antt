@@ -5,13 +5,17 @@ use mathlib.Core.Option.{Option, none, some}
 use lib.IntN.{ℤ}
 use mir.Syntax.{w16}
 use mir.Val.{toZ}
-use Rattle.word.specs.Written.{table}
-use Rattle.word.specs.Bytes.{put}
+use Rattle.word.specs.Table.{table}
+use Rattle.word.specs.Parts.{put}
 use Rattle.word.specs.Word.{field}
 use Rattle.lms.specs.declared.QoaLms.{QoaLms}
-use Rattle.format.specs.FileHeader.{magic}
+use Rattle.format.specs.FileHeader.{magic, fileRules, totalOf}
 use Rattle.format.specs.Predictor.{fourWord}
 use Rattle.format.specs.declared.frame.FrameHeader.{FrameHeader}
+use Rattle.refusal.specs.Rules.{Answer, after, good, refused}
+use Rattle.refusal.specs.Refusals.{numberOf}
+use Rattle.format.specs.declared.frame.HeaderAnswer.{HeaderAnswer}
+use Rattle.format.specs.declared.frame.HeaderAnswer.the-variants.{Good, Refused}
 
 -- the 64-bit word of a file header
 unfoldable pub fileWord : ℕ → ℕ
@@ -33,3 +37,12 @@ putLms out p lms = put 8 (put 8 out p (fourWord (lms .history))) (p + 8) (fourWo
 abbrev pub sooner : Option ℕ → Option ℕ → Option ℕ
 sooner none b = b
 sooner (some n) b = some n
+
+-- the total, or the refusal
+unfoldable pub fileHeader : List ℕ → Answer ℕ
+fileHeader bs = after (fileRules bs) (good (totalOf bs))
+
+-- what the code's answer tells
+abbrev pub toldHeader : HeaderAnswer → Answer FrameHeader
+toldHeader (Good h) = good h
+toldHeader (Refused r) = refused (numberOf r)

@@ -5,7 +5,7 @@ use lib.IntN.{ℤ}
 use lib.ListN.{getD}
 use mir.Syntax.{w16}
 use mir.Val.{toZ}
-use Rattle.word.specs.Written.{table}
+use Rattle.word.specs.Table.{table}
 use Rattle.word.specs.Bytes.{be16}
 use Rattle.wrap.specs.Wrap.{low16}
 use Rattle.lms.specs.Predictor.{at}

@@ -1,11 +1,10 @@
 // The header of a file: `qoaf`, then the total of samples per channel.
 ghost use mathlib.Core.Path.{_≡_};
-ghost use Rattle.format.specs.FileHeader.{fileHeader};
 use crate::frame::QOA_HEADER_SIZE;
 use refusal::CountAnswer;
 use refusal::Refusal;
 ghost use Rattle.refusal.specs.Refusals.{toldCount};
-ghost use Rattle.format.specs.Parts.{fileWord};
+ghost use Rattle.format.specs.Parts.{fileWord, fileHeader};
 
 // `qoaf`
 const QOA_MAGIC: u32 = 0x716f_6166;

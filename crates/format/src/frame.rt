@@ -5,10 +5,10 @@ ghost use lib.ListN.{length};
 ghost use Rattle.refusal.specs.Rules.{firstOf};
 ghost use Rattle.format.specs.Format.{frameLength, slicesOf, stateEnd};
 ghost use Rattle.refusal.specs.Refusals.{toldChecked};
-ghost use Rattle.format.specs.Header.{goodHeader, headerAt, headerRules, headerWord, leftAt, toldHeader};
+ghost use Rattle.format.specs.Header.{goodHeader, headerAt, headerRules, headerWord, leftAt};
 use refusal::Checked;
 use refusal::Refusal;
-ghost use Rattle.format.specs.Parts.{headerFields};
+ghost use Rattle.format.specs.Parts.{headerFields, toldHeader};
 
 pub const QOA_SLICE_LEN: usize = 20;
 

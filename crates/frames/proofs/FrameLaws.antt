@@ -12,7 +12,7 @@ use lib.Dec.{ltb}
 use lib.ListN.{length}
 use lib.Seq.{ext-getD}
 use Rattle.refusal.specs.Rules.{Rule, firstOf}
-use Rattle.word.specs.Written.{table, written}
+use Rattle.word.specs.Table.{table}
 use Rattle.refusal.proofs.Rules.{fires}
 use Rattle.word.proofs.Tests.{tests}
 use Rattle.lms.specs.declared.QoaLms.{QoaLms}
@@ -25,18 +25,19 @@ use Rattle.format.specs.declared.frame.FrameHeader.{FrameHeader}
 use Rattle.refusal.specs.declared.Refusal.{Refusal}
 use Rattle.refusal.specs.declared.Refusal.the-variants.{BadState, Truncated}
 use Rattle.groups.specs.Channel.{runAfter}
-use Rattle.groups.specs.Groups.{groupsStates}
+use Rattle.word.specs.Parts.{written}
 use Rattle.groups.proofs.GroupLaws.{groups-lms, groups-other, length-groups}
 use Rattle.state.specs.View.{View, factsIn, movedTo, nonePending, view}
 use Rattle.state.specs.States.{goodState}
 use Rattle.state.specs.declared.QoaDecoder.{QoaDecoder}
 use Rattle.state.proofs.Views.{stored-lms}
 use Rattle.into.specs.Into.{groupsEnd}
-use Rattle.frames.specs.Frames.{NextDone, a-frame, dropped, enterRules, entered, enteredOr, entryRules, foundAt, frameRead, nextRules}
+use Rattle.frames.specs.Frames.{NextDone, a-frame, pastRest, enterRules, entered, enteredOr, entryRules, foundAt, frameRead, nextRules}
 use Rattle.frames.specs.declared.NextFrame.{NextFrame}
 use Rattle.frames.specs.declared.FrameAnswer.the-variants.{Frame, End, Refused}
 use Rattle.into.proofs.Coming.{lms-after}
 use Rattle.frames.specs.Parts.{EnterDone}
+use Rattle.groups.specs.Parts.{groupsStates}
 use Rattle.into.proofs.Taken as T
 
 -- no group leaves the predictors as they are
@@ -54,8 +55,8 @@ module _ (bs : List ℕ) (d : QoaDecoder) where
   -- all that remains, dropped
   pub view-dropped : d .frame .channels ≤ length (d .lms)
       → view (T.leftAt d (d .at + 8 * (slicesOf (d .remaining) * d .frame .channels)) 0 0 0 true (groupsStates bs (d .at) (d .frame .channels) (d .lms) (slicesOf (d .remaining))) (d .pending))
-      ≡ dropped bs (view d)
-  unfolding view dropped table
+      ≡ pastRest bs (view d)
+  unfolding view pastRest table
   view-dropped room =
       let lms-is = lms-after bs d (slicesOf (d .remaining)) room in
       λ i. movedTo (view d) (d .frame) (d .at + 8 * (slicesOf (d .remaining) * d .frame .channels)) 0 nonePending (lms-is i)
@@ -133,9 +134,9 @@ module _ (bs : List ℕ) (d : QoaDecoder) (r : NextFrame) where
       let f : firstOf (nextRules bs (view d)) ≡ some 5 = fires 1 (nextRules bs (view d)) 5 (rw e (tt, (omega (arith, tests), refl))) in
       record { told = rw (f, answer); left = rw f state }
 
-  pub next-entered : goodState (view d) (length bs) ≡ true → groupsEnd (view d) (slicesOf (view d .remaining)) ≤ length bs → EnterDone bs d (dropped bs (view d)) r → NextDone bs d r
+  pub next-entered : goodState (view d) (length bs) ≡ true → groupsEnd (view d) (slicesOf (view d .remaining)) ≤ length bs → EnterDone bs d (pastRest bs (view d)) r → NextDone bs d r
   unfolding nextRules firstOf
   next-entered e whole done =
       let five = le-ltb (length bs) (groupsEnd (view d) (slicesOf (view d .remaining))) whole in
-      let f : firstOf (nextRules bs (view d)) ≡ firstOf (enterRules bs (dropped bs (view d))) = rw (e, five) in
+      let f : firstOf (nextRules bs (view d)) ≡ firstOf (enterRules bs (pastRest bs (view d))) = rw (e, five) in
       record { told = done .told ∙ rw f; left = rw f (done .left) }

@@ -6,7 +6,7 @@ use mathlib.Core.List.{List, [], _∷_}
 use lib.Dec.{ltb}
 use lib.ListN.{length}
 use Rattle.refusal.specs.Rules.{Answer, good, refused, Rule, _gives_, after, firstOf}
-use Rattle.word.specs.Written.{table}
+use Rattle.word.specs.Table.{table}
 use Rattle.format.specs.Format.{slicesOf, stateEnd}
 use Rattle.format.specs.Grammar.{tailOk}
 use Rattle.format.specs.Header.{headerAt, leftAt}
@@ -30,8 +30,8 @@ use Rattle.frames.specs.declared.FrameAnswer.the-variants.{Frame, End, R
 
 -- ---- what remains of the current frame, decoded and dropped
 
-unfoldable pub dropped : List ℕ → View → View
-dropped bs v = let q = slicesOf (v .remaining) in movedTo v (v .frame) (groupsEnd v q) 0 nonePending (groupsLms bs v q)
+unfoldable pub pastRest : List ℕ → View → View
+pastRest bs v = let q = slicesOf (v .remaining) in movedTo v (v .frame) (groupsEnd v q) 0 nonePending (groupsLms bs v q)
 
 -- ---- the frame at the place
 
@@ -87,13 +87,13 @@ unfoldable pub nextRules : List ℕ → View → List Rule
 nextRules bs v =
     (not (goodState v (length bs)) gives 8)
     ∷ (ltb (length bs) (groupsEnd v (slicesOf (v .remaining))) gives 5)
-    ∷ enterRules bs (dropped bs v)
+    ∷ enterRules bs (pastRest bs v)
 
 abbrev pub nextFound : List ℕ → View → Found
-nextFound bs v = foundAt bs (dropped bs v)
+nextFound bs v = foundAt bs (pastRest bs v)
 
 abbrev pub nextAfter : List ℕ → View → View
-nextAfter bs v = enteredOr bs (dropped bs v)
+nextAfter bs v = enteredOr bs (pastRest bs v)
 
 -- what the code's answer tells
 abbrev pub toldFrame : FrameAnswer → Answer Found

@@ -5,11 +5,10 @@ ghost use Prim.Native.Nat.{_+_, _*_, _^_, _≤_};
 ghost use lib.ListN.{length};
 ghost use Rattle.format.specs.Format.{maxChannels, slicesOf, stateEnd};
 ghost use Rattle.format.specs.Header.{headerAt};
-ghost use Rattle.groups.specs.Groups.{groupsStates};
 ghost use Rattle.state.specs.View.{View, view};
 ghost use Rattle.state.specs.States.{goodState};
 ghost use Rattle.into.specs.Into.{groupsEnd};
-ghost use Rattle.frames.specs.Frames.{NextDone, dropped, entered, frameRead, kindOf};
+ghost use Rattle.frames.specs.Frames.{NextDone, pastRest, entered, frameRead, kindOf};
 ghost use Rattle.frames.specs.declared.FrameAnswer.the-variants.{Refused};
 use format::checks::First;
 use format::checks::Kind;
@@ -24,7 +23,7 @@ use state::FrameFacts;
 use state::PENDING;
 use state::ProcessingMode;
 use state::QoaDecoder;
-ghost use Rattle.groups.specs.Parts.{AllWithin};
+ghost use Rattle.groups.specs.Parts.{AllWithin, groupsStates};
 ghost use Rattle.frames.specs.Parts.{EnterDone};
 
 // The next frame, or the end.
@@ -76,7 +75,7 @@ fn run_groups(
 fn drop_rest(d: QoaDecoder, bytes: &[u8]) -> QoaDecoder
     requires good { ⌜ goodState (view d) (length (now bytes)) ≡ true ⌝ }
     requires whole { ⌜ groupsEnd (view d) (slicesOf (d .remaining)) ≤ length (now bytes) ⌝ }
-    ensures { λ r. ⌜ view r ≡ dropped (now (bytes .entry)) (view d) ⌝ }
+    ensures { λ r. ⌜ view r ≡ pastRest (now (bytes .entry)) (view d) ⌝ }
 {
     let frame = d.frame;
     let channels = frame.channels as usize;

@@ -9,8 +9,9 @@ use Rattle.lms.specs.declared.QoaLms.{QoaLms}
 use Rattle.format.specs.Predictor.{lmsOf}
 use Rattle.slice.proofs.Fits.{sample-at-fits, state-fits}
 use Rattle.groups.specs.Channel.{channelAt, runAfter}
-use Rattle.groups.specs.Groups.{groupsAt, groupsStates, wordAt}
+use Rattle.groups.specs.Groups.{groupsAt, wordAt}
 use Rattle.groups.proofs.GroupLaws.{groups-each}
+use Rattle.groups.specs.Parts.{groupsStates}
 
 -- ---- histories
 

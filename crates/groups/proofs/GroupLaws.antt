@@ -10,14 +10,14 @@ use lib.IntN.{ℤ}
 use lib.ListN.{length, List·getD-eq-default}
 use lib.Seq.{ext-getD}
 use Rattle.word.specs.Bytes.{be64}
-use Rattle.word.specs.Written.{written}
+use Rattle.groups.specs.Parts.{groupsStates}
 use Rattle.word.proofs.Writes.{interleaved-flat, length-written, written-at, written-other}
 use Rattle.lms.specs.declared.QoaLms.{QoaLms}
 use Rattle.format.specs.Predictor.{lmsOf, noLms}
 use Rattle.groups.specs.Channel.{channelAt, runAfter}
-use Rattle.groups.specs.Groups.{groupsAt, groupsStates, wordAt}
+use Rattle.groups.specs.Groups.{groupsAt, wordAt}
 use Rattle.groups.proofs.Runs.{channel-shift, run-more}
-use Rattle.word.specs.Parts.{interleaved}
+use Rattle.word.specs.Parts.{interleaved, written}
 
 -- ---- the predictors, by channel
 

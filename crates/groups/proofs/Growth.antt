@@ -7,9 +7,9 @@ use Rattle.lms.specs.declared.QoaLms.{QoaLms}
 use Rattle.lms.proofs.Bounds.{within-more}
 use Rattle.slice.proofs.Growth.{slice-within}
 use Rattle.groups.specs.Channel.{runAfter}
-use Rattle.groups.specs.Groups.{groupsStates, wordAt}
+use Rattle.groups.specs.Groups.{wordAt}
 use Rattle.groups.proofs.GroupLaws.{groups-each}
-use Rattle.groups.specs.Parts.{AllWithin}
+use Rattle.groups.specs.Parts.{AllWithin, groupsStates}
 
 pub run-within : {B : ℕ} (words : ℕ → ℕ) {s : QoaLms} → WeightsWithin B s → (g : ℕ) → WeightsWithin (B + 17920 * g) (runAfter words s g)
 unfolding runAfter

@@ -11,8 +11,9 @@ use Rattle.word.proofs.Writes.{written-ext}
 use Rattle.lms.specs.declared.QoaLms.{QoaLms}
 use Rattle.format.specs.Predictor.{lmsOf}
 use Rattle.groups.specs.Channel.{runAfter}
-use Rattle.groups.specs.Groups.{groupsAt, groupsStates, wordAt}
+use Rattle.groups.specs.Groups.{groupsAt, wordAt}
 use Rattle.groups.proofs.Runs.{channel-ext, run-ext}
+use Rattle.groups.specs.Parts.{groupsStates}
 
 -- a product above a number has no factor 0
 factor-pos : (a c k : ℕ) → k < a * c → 0 < c

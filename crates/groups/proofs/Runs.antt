@@ -5,7 +5,7 @@ use Prim.Native.Nat.{ℕ, zero, suc, _+_, _*_, _/_, _%_, _≤_, _<_}
 use native.Mathlib.Nat.{add-suc, add-zero}
 use native.Mathlib.Omega.{arith}
 use lib.IntN.{ℤ}
-use Rattle.word.specs.Written.{written}
+use Rattle.word.specs.Parts.{written}
 use Rattle.word.proofs.Writes.{written-ext, written-join-by}
 use Rattle.lms.specs.declared.QoaLms.{QoaLms}
 use Rattle.slice.specs.Slice.{sampleAt}

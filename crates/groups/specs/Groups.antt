@@ -2,19 +2,14 @@
 use Prim.Native.Nat.{ℕ, _+_, _*_, _/_, _%_}
 use mathlib.Core.List.{List}
 use lib.IntN.{ℤ}
-use Rattle.word.specs.Written.{written}
 use Rattle.word.specs.Bytes.{be64}
 use Rattle.lms.specs.declared.QoaLms.{QoaLms}
 use Rattle.format.specs.Predictor.{lmsOf}
-use Rattle.groups.specs.Channel.{channelAt, runAfter}
+use Rattle.groups.specs.Channel.{channelAt}
 
 -- the word of slice g of channel j, of c channels
 abbrev pub wordAt : List ℕ → ℕ → ℕ → ℕ → ℕ → ℕ
 wordAt bs p c j g = be64 bs (p + 8 * (g * c + j))
-
--- the predictors after g groups: those of the first c channels run over their slices, the others are as they were
-unfoldable pub groupsStates : List ℕ → ℕ → ℕ → List QoaLms → ℕ → List QoaLms
-groupsStates bs p c states g = written (λ j. runAfter (wordAt bs p c j) (lmsOf states j) g) states 0 1 c
 
 -- the k-th sample of the groups, interleaved: sample k / c of channel k % c
 unfoldable pub groupsAt : List ℕ → ℕ → ℕ → List QoaLms → ℕ → ℤ

@@ -7,13 +7,13 @@ ghost use mathlib.Core.Path.{_≡_};
 ghost use Prim.Native.Nat.{ℕ, _+_, _*_, _^_, _≤_, _<_, min};
 ghost use lib.ListN.{length};
 ghost use Rattle.word.specs.Bytes.{be64};
-ghost use Rattle.word.specs.Written.{written};
+ghost use Rattle.word.specs.Parts.{written};
 ghost use Rattle.lms.specs.Parts.{WeightsWithin};
-ghost use Rattle.scale.specs.Tables.{dequantTab};
+ghost use Rattle.scale.specs.Parts.{dequantTab};
 ghost use Rattle.format.specs.Format.{maxChannels, sliceLen, slicesOf};
 ghost use Rattle.groups.specs.Channel.{channelAt, runAfter};
-ghost use Rattle.groups.specs.Groups.{groupsAt, groupsStates};
-ghost use Rattle.groups.specs.Parts.{AllWithin};
+ghost use Rattle.groups.specs.Groups.{groupsAt};
+ghost use Rattle.groups.specs.Parts.{AllWithin, groupsStates};
 
 // The samples of a slice, of those that are left: twenty, or fewer in a short one.
 fn slice_len(left: usize) -> usize

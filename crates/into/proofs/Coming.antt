@@ -7,18 +7,20 @@ use native.Mathlib.Omega.{arith}
 use borrow.Author.Tests.{le-ltb, lt-ltb}
 use lib.IntN.{ℤ, pos}
 use lib.ListN.{getD, length}
-use Rattle.word.specs.Written.{table, written}
+use Rattle.word.specs.Table.{table}
 use Rattle.word.proofs.Tables.{table-ext}
 use Rattle.word.proofs.Writes.{written-at, written-ext, written-join}
 use Rattle.lms.specs.declared.QoaLms.{QoaLms}
 use Rattle.format.specs.Predictor.{lmsOf}
 use Rattle.groups.specs.Channel.{channelAt, runAfter}
-use Rattle.groups.specs.Groups.{groupsAt, groupsStates, wordAt}
+use Rattle.groups.specs.Groups.{groupsAt, wordAt}
 use Rattle.groups.proofs.GroupLaws.{groups-lms, groups-shift}
 use Rattle.state.specs.View.{view, waiting}
 use Rattle.state.specs.declared.QoaDecoder.{QoaDecoder}
 use Rattle.state.proofs.Views.{view-lms, view-pending}
 use Rattle.into.specs.Into.{comingAt, groupsLms}
+use Rattle.word.specs.Parts.{written}
+use Rattle.groups.specs.Parts.{groupsStates}
 
 -- of a state with its used channels in the array
 module _ (bs : List ℕ) (d : QoaDecoder) where

@@ -8,7 +8,7 @@ use native.Mathlib.Omega.{arith}
 use lib.IntN.{ℤ, pos}
 use lib.ListN.{getD, length}
 use Rattle.refusal.specs.Rules.{Rule, firstOf}
-use Rattle.word.specs.Written.{written}
+use Rattle.word.specs.Parts.{written}
 use Rattle.refusal.specs.Lent.{laidOver}
 use Rattle.refusal.proofs.Rules.{fires, none-fires}
 use Rattle.refusal.proofs.Lents.{over-written}

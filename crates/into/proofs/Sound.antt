@@ -7,7 +7,6 @@ use native.Mathlib.Omega.{arith}
 use lib.ListN.{length, length-map}
 use Rattle.lms.proofs.Bounds.{within-more}
 use Rattle.format.specs.Format.{maxChannels}
-use Rattle.groups.specs.Groups.{groupsStates}
 use Rattle.groups.proofs.Growth.{groups-within}
 use Rattle.state.specs.View.{view}
 use Rattle.state.specs.States.{goodState}
@@ -15,7 +14,7 @@ use Rattle.state.specs.declared.QoaDecoder.{QoaDecoder}
 use Rattle.state.proofs.Bounds.{bound-most}
 use Rattle.state.proofs.GoodStates.{good-facts}
 use Rattle.state.proofs.Views.{view-lms}
-use Rattle.groups.specs.Parts.{AllWithin}
+use Rattle.groups.specs.Parts.{AllWithin, groupsStates}
 
 -- an array's list is as long as its machine value
 pub length-mapped : {X Y : Type 0} (f : X → Y) (l : List X) (n : ℕ) → length (map f l) ≡ n → length l ≡ n

@@ -10,11 +10,11 @@ use borrow.Author.Tests.{ne-eqb}
 use lib.Dec.{eqb}
 use lib.IntN.{ℤ, pos}
 use lib.ListN.{getD, length}
-use Rattle.word.specs.Written.{table}
+use Rattle.word.specs.Table.{table}
 use Rattle.word.proofs.Tables.{table-ext}
 use Rattle.lms.specs.declared.QoaLms.{QoaLms}
 use Rattle.format.specs.Format.{slicesOf}
-use Rattle.groups.specs.Groups.{groupsStates}
+use Rattle.groups.specs.Parts.{groupsStates}
 use Rattle.groups.proofs.GroupLaws.{groups-more}
 use Rattle.state.specs.View.{View, movedTo, view, viewOf, waiting, flagged}
 use Rattle.state.specs.declared.QoaDecoder.{QoaDecoder}

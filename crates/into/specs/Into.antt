@@ -9,7 +9,7 @@ use lib.ListN.{getD, length}
 use Rattle.format.specs.Format.{sliceLen}
 use Rattle.refusal.specs.Rules.{good, Rule, _gives_, after, firstOf}
 use Rattle.refusal.specs.Lent.{laidOver}
-use Rattle.word.specs.Written.{table}
+use Rattle.word.specs.Table.{table}
 use Rattle.lms.specs.declared.QoaLms.{QoaLms}
 use Rattle.refusal.specs.Refusals.{toldCount}
 use Rattle.format.specs.Predictor.{lmsOf}

@@ -5,7 +5,7 @@ ghost use mathlib.Core.List.{List};
 ghost use Prim.Native.Nat.{ℕ, _+_, _-_, _*_, _≤_, _<_, min};
 ghost use lib.IntN.{pos};
 ghost use lib.ListN.{getD, length};
-ghost use Rattle.word.specs.Written.{written};
+ghost use Rattle.word.specs.Parts.{written};
 ghost use Rattle.format.specs.Format.{maxChannels, pendingLen, sliceLen};
 ghost use Rattle.state.specs.View.{view, waiting, flagged};
 ghost use Rattle.state.specs.States.{goodState};

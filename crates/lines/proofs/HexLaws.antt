@@ -7,7 +7,7 @@ use native.Mathlib.Omega.{arith}
 use borrow.Author.Tests.{lt-ltb, le-ltb, le-leb, lt-leb, ltb-true, ltb-false}
 use lib.Dec.{ltb}
 use lib.ListN.{getD, set}
-use Rattle.word.specs.Written.{written}
+use Rattle.word.specs.Parts.{written}
 use Rattle.lines.proofs.OutputLaws.{two-more}
 use Rattle.io.specs.Digits.{glyph}
 use Rattle.lines.specs.Hex.{hexValue, digitOf}

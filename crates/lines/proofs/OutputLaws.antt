@@ -9,7 +9,7 @@ use native.Mathlib.Omega.{arith}
 use borrow.Author.Tests.{ltb-true}
 use lib.Dec.{ltb}
 use lib.ListN.{length, set}
-use Rattle.word.specs.Written.{written}
+use Rattle.word.specs.Parts.{written}
 use Rattle.lines.specs.Output.{Put, appended, grown}
 
 -- what fits, and what does not

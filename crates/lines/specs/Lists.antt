@@ -2,7 +2,7 @@
 use Prim.Native.Nat.{ℕ, zero, suc, _*_}
 use mathlib.Core.List.{List}
 use lib.ListN.{getD}
-use Rattle.word.specs.Bytes.{put}
+use Rattle.word.specs.Parts.{put}
 
 -- `out` with the first n numbers stored from its start on, four bytes each
 unfoldable pub numbersPut : List ℕ → List ℕ → ℕ → List ℕ

@@ -5,7 +5,7 @@ use mathlib.Core.Bool.{cond}
 use mathlib.Core.List.{List}
 use lib.Dec.{ltb}
 use lib.ListN.{length, getD}
-use Rattle.word.specs.Written.{written}
+use Rattle.word.specs.Parts.{written}
 
 -- how many are filled after n bytes more, in room for so many: all of them where the n do not fit, and so it stays
 unfoldable pub grown : ℕ → ℕ → ℕ → ℕ

@@ -3,7 +3,7 @@ ghost use mathlib.Core.Path.{_≡_};
 ghost use Prim.Native.Nat.{_+_, _*_, _/_, _%_, _<_, _≤_};
 ghost use lib.ListN.{length, set};
 ghost use Rattle.io.specs.Digits.{glyph};
-ghost use Rattle.word.specs.Written.{written};
+ghost use Rattle.word.specs.Parts.{written};
 ghost use Rattle.lines.specs.Hex.{digitOf, isHex, pairAt};
 ghost use Rattle.lines.specs.Output.{Put};
 use crate::digit::hex_digit;

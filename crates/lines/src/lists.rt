@@ -3,7 +3,7 @@ ghost use mathlib.Core.Path.{_≡_};
 ghost use Prim.Native.Nat.{_*_, _≤_};
 ghost use lib.ListN.{length};
 ghost use Rattle.word.specs.Bytes.{be32};
-ghost use Rattle.word.specs.Written.{written};
+ghost use Rattle.word.specs.Parts.{written};
 ghost use Rattle.lines.specs.Lists.{numbersPut};
 ghost use Rattle.lines.specs.Output.{byteAt};
 

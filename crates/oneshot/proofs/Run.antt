@@ -10,7 +10,7 @@ use Rattle.body.specs.Channel.{lmsBefore, slicePart, sliceWord}
 use Rattle.encoder.specs.Head.{headBytes}
 use Rattle.word.specs.Bytes.{byteOf, bytesOf}
 use Rattle.word.specs.Word.{filled}
-use Rattle.word.specs.Written.{table}
+use Rattle.word.specs.Table.{table}
 use Rattle.wrap.specs.Wrap.{modulo}
 use Rattle.lms.specs.Predictor.{above, clamp16, costOf, dot, newLms, nextWeight, penaltyOf, predicted, stepped, updated, allShort, historyRule}
 use Rattle.scale.specs.Tables.{factorOf, factors, reciprocalOf, rowFor, rowOf}

@@ -17,8 +17,8 @@ use Rattle.wrap.specs.Wrap.{modulo, low16, low32}
 use Rattle.wrap.proofs.Integers.{abs-fits}
 use Rattle.wrap.proofs.Modulo.{modulo-lt}
 use Rattle.wrap.proofs.Patterns.{read-low}
-use Rattle.word.specs.Written.{table}
-use Rattle.word.specs.Bytes.{be, be64, byteOf, put}
+use Rattle.word.specs.Table.{table}
+use Rattle.word.specs.Bytes.{be, be64, byteOf}
 use Rattle.word.specs.Word.{field}
 use Rattle.word.proofs.Tables.{length-table, table-ext, table-of}
 use Rattle.word.proofs.BytesLaws.{be-ext, be-lt-bits, length-put, put-at}
@@ -29,6 +29,7 @@ use Rattle.format.specs.Predictor.{signedAt, lmsAt, fourWord}
 use Rattle.word.proofs.Fields.{AreBytes, Stored, at-each, be-field, joined, stored-field}
 use Rattle.lms.specs.Parts.{HistoryFits, WeightsWithin}
 use Rattle.format.specs.Parts.{fourOf, putLms}
+use Rattle.word.specs.Parts.{put}
 
 -- ---- where a state is read: it is that of its 16 bytes
 

@@ -5,7 +5,7 @@ ghost use lib.ListN.{length};
 ghost use mir.Syntax.{w16};
 ghost use mir.Val.{toZ};
 ghost use Rattle.word.specs.Word.{field};
-ghost use Rattle.word.specs.Written.{written};
+ghost use Rattle.word.specs.Parts.{written};
 ghost use Rattle.wrap.specs.Wrap.{low16};
 ghost use Rattle.format.specs.Format.{maxChannels};
 ghost use Rattle.format.specs.Predictor.{fourWord, lmsAt};

@@ -5,13 +5,14 @@ use mathlib.Core.List.{List, [], _++_, append-assoc}
 use native.Mathlib.Omega.{arith}
 use lib.ListN.{length, take, drop, length-append, length-drop, take-append-drop}
 use lib.Seq.{drop-append-add, drop-at, drop-drop, length-take-le, take-at}
-use Rattle.word.specs.Bytes.{bytesOf, put}
-use Rattle.word.specs.Written.{table, written}
+use Rattle.word.specs.Bytes.{bytesOf}
+use Rattle.word.specs.Parts.{put, written}
 use Rattle.word.proofs.BytesLaws.{length-bytes, put-list}
 use Rattle.word.proofs.Tables.{length-table}
 use Rattle.word.proofs.Writes.{written-list}
 use Rattle.refusal.specs.Rules.{good}
 use Rattle.refusal.specs.Lent.{laidOver}
+use Rattle.word.specs.Table.{table}
 
 module _ {A : Type 0} (out : List A) where
   -- what is past the values, counted from the start

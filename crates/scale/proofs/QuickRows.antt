@@ -17,9 +17,9 @@ use mir.Val.{toZ}
 use Rattle.wrap.proofs.Integers.{read-neg, read-pos}
 use Rattle.wrap.proofs.Linear.{add-parts, dn, minus-parts, up}
 use Rattle.wrap.specs.Wrap.{modulo}
-use Rattle.scale.specs.Tables.{factorOf, factors, reciprocalOf, reciprocalTab, rowOf}
+use Rattle.scale.specs.Tables.{factorOf, factors, reciprocalOf, rowOf}
 use Rattle.scale.specs.Division.{codeFor, codes, dividedBy, placeOf, shifted, signOf}
-use Rattle.scale.specs.Parts.{halfOf, quickCodes, quickFor, quickPlace, quickRow, quickTab}
+use Rattle.scale.specs.Parts.{halfOf, quickCodes, quickFor, quickPlace, quickRow, quickTab, reciprocalTab}
 use Rattle.scale.proofs.Table.{agree, entry, values}
 
 -- by whether a number is below a bound

@@ -7,8 +7,9 @@ use Prim.Native.Nat.{ℕ, _+_, _-_, _*_, _^_, _≤_, _<_}
 use borrow.Author.Tests.{leb-true, ltb-true}
 use lib.Dec.{leb, ltb}
 use lib.ListN.{getD}
-use Rattle.scale.specs.Tables.{dequantTab, factorOf, factors, rowFor, rowOf}
+use Rattle.scale.specs.Tables.{factorOf, factors, rowFor, rowOf}
 use Rattle.scale.proofs.Table.{agree, entry}
+use Rattle.scale.specs.Parts.{dequantTab}
 
 -- row k has the s whose double is nearest to the fourth root of 16 (k + 1)^11
 pub scale-low : (k : ℕ) → k < 16 → (2 * factorOf k - 1) ^ 4 ≤ 16 * (k + 1) ^ 11

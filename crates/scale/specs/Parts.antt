@@ -1,12 +1,12 @@
 -- The quick rows: where a residual stands in them, and what stands there. They are derived, and no definition rests on them.
 -- Assumes nothing.
-use Prim.Native.Nat.{ℕ, min, _+_, _-_}
+use Prim.Native.Nat.{ℕ, min, _+_, _-_, _/_}
 use mathlib.Core.Bool.{cond}
 use mathlib.Core.List.{List, [], _∷_, map}
 use lib.Dec.{ltb}
 use lib.ListN.{getD}
 use lib.IntN.{ℤ, pos, negsuc}
-use Rattle.scale.specs.Tables.{factorOf, factors, rowFor}
+use Rattle.scale.specs.Tables.{factorOf, factors, rowFor, fixedOne}
 
 -- where the half of a residual starts: those from 0 up come first
 unfoldable pub halfOf : ℤ → ℕ
@@ -34,3 +34,11 @@ quickRow k = quickFor (factorOf k)
 
 unfoldable pub quickTab : List (List ℤ)
 quickTab = map quickFor factors
+
+-- those of all sixteen
+unfoldable pub reciprocalTab : List ℤ
+reciprocalTab = map (λ (s : ℕ). pos ((fixedOne + s - 1) / s)) factors
+
+-- all sixteen rows
+unfoldable pub dequantTab : List (List ℤ)
+dequantTab = map rowFor factors

@@ -1,7 +1,7 @@
 -- The tables: the scale factors, what each code stands for, and the reciprocals.
 -- Assumes nothing.
 use Prim.Native.Nat.{ℕ, _+_, _-_, _*_, _/_, _^_}
-use mathlib.Core.List.{List, [], _∷_, map}
+use mathlib.Core.List.{List, [], _∷_}
 use lib.ListN.{getD}
 use lib.IntN.{ℤ, pos, negℤ}
 
@@ -20,10 +20,6 @@ fixedOne = 2 ^ 16
 unfoldable pub reciprocalOf : ℕ → ℕ
 reciprocalOf k = (fixedOne + factorOf k - 1) / factorOf k
 
--- those of all sixteen
-unfoldable pub reciprocalTab : List ℤ
-reciprocalTab = map (λ (s : ℕ). pos ((fixedOne + s - 1) / s)) factors
-
 -- a magnitude, followed by its negative
 abbrev pub both : ℕ → List ℤ → List ℤ
 both m more = pos m ∷ negℤ (pos m) ∷ more
@@ -35,7 +31,3 @@ rowFor s = both ((3 * s + 2) / 4) (both ((5 * s + 1) / 2) (both ((9 * s + 1) / 2
 -- the row of scale factor k
 unfoldable pub rowOf : ℕ → List ℤ
 rowOf k = rowFor (factorOf k)
-
--- all sixteen rows
-unfoldable pub dequantTab : List (List ℤ)
-dequantTab = map rowFor factors

@@ -8,8 +8,9 @@ pub use quick::quick_value;
 ghost use mathlib.Core.Path.{_≡_};
 ghost use Prim.Native.Nat.{_<_};
 ghost use lib.IntN.{pos};
-ghost use Rattle.scale.specs.Tables.{dequantTab, reciprocalOf, reciprocalTab};
+ghost use Rattle.scale.specs.Tables.{reciprocalOf};
 ghost use Rattle.scale.specs.Division.{codeFor, dividedBy, signOf};
+ghost use Rattle.scale.specs.Parts.{dequantTab, reciprocalTab};
 
 // The encoder's code of each quotient from -8 to 8.
 const QOA_QUANT_TAB: [u8; 17] = [7, 7, 7, 5, 5, 3, 3, 1, 0, 0, 2, 2, 4, 4, 6, 6, 6];

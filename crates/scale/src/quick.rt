@@ -3,9 +3,9 @@ ghost use mathlib.Core.Path.{_≡_};
 ghost use Prim.Native.Nat.{ℕ, _<_, min};
 ghost use lib.IntN.{pos};
 ghost use lib.ListN.{getD};
-ghost use Rattle.scale.specs.Tables.{dequantTab, reciprocalOf, reciprocalTab, rowOf};
+ghost use Rattle.scale.specs.Tables.{reciprocalOf, rowOf};
 ghost use Rattle.scale.specs.Division.{codeFor, dividedBy, shifted};
-ghost use Rattle.scale.specs.Parts.{halfOf, quickCodes, quickPlace, quickRow, quickTab};
+ghost use Rattle.scale.specs.Parts.{halfOf, quickCodes, quickPlace, quickRow, quickTab, dequantTab, reciprocalTab};
 
 // The code at each place: a half for residuals from 0 up, then one for those below. In each the shifted product is -7 to 7,
 // then 8 and more, then -8 and less.

@@ -10,7 +10,7 @@ use lib.IntN.{ℤ, pos}
 use lib.ListN.{length, List·getD-eq-default}
 use mir.Syntax.{w16}
 use mir.Val.{SFits}
-use Rattle.word.specs.Written.{table}
+use Rattle.word.specs.Table.{table}
 use Rattle.word.proofs.Tables.{getD-table, length-table}
 use Rattle.lms.specs.Predictor.{at}
 use Rattle.search.specs.Parts.{SamplesFit}

@@ -6,7 +6,7 @@ use mathlib.Core.List.{List}
 use native.Mathlib.Omega.{arith}
 use lib.ListN.{length, getD, take}
 use lib.Seq.{getD-take, length-take-le, take-all}
-use Rattle.word.specs.Written.{table}
+use Rattle.word.specs.Table.{table}
 use Rattle.word.proofs.Tables.{table-ext, table-of}
 
 module _ {A : Type 0} (f : ℕ → A) (l : List A) (d : A) (n : ℕ) (below : (k : ℕ) → k < n → getD l k d ≡ f k) where

@@ -6,7 +6,7 @@ use mathlib.Core.List.{List}
 use native.Mathlib.Omega.{arith}
 use lib.IntN.{ℤ}
 use lib.ListN.{length, getD}
-use Rattle.word.specs.Word.{codeOf, filled, packed, scaleOf}
+use Rattle.word.specs.Word.{codeOf, filled, scaleOf}
 use Rattle.word.proofs.Words.{code-of-filled, filled-lt, packed-lt, scale-of-filled}
 use Rattle.lms.specs.Parts.{HistoryFits, WeightsWithin}
 use Rattle.lms.specs.declared.QoaLms.{QoaLms}
@@ -18,6 +18,7 @@ use Rattle.search.specs.Parts.{SamplesFit}
 use Rattle.search.proofs.Bounds.{Sized, sized-start}
 use Rattle.search.proofs.Chosen.{found, trials-most}
 use Rattle.search.proofs.Runs.{whole-sized, codesTried, codes-small, run-packed, run-lms, sums-length, sums-fit, lms-fits}
+use Rattle.word.specs.Parts.{packed}
 
 module _ (lms : QoaLms) (xs : List ℤ) (some : 0 < length xs) where
   abbrev sfOf : ℕ

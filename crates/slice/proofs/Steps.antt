@@ -5,7 +5,7 @@ use Prim.Native.Nat.{ℕ, _+_, _*_}
 use native.Mathlib.Numerals.{add-one}
 use lib.IntN.{ℤ, _+ℤ_}
 use lib.ListN.{set}
-use Rattle.word.specs.Written.{written}
+use Rattle.word.specs.Parts.{written}
 use Rattle.ahead.specs.Parts.{aheadOf}
 use Rattle.lms.specs.Predictor.{clamp16, predicted, updated}
 use Rattle.ahead.specs.declared.Ahead.{Ahead}

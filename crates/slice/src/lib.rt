@@ -9,14 +9,15 @@ ghost use lib.IntN.{ℤ};
 ghost use lib.ListN.{length};
 ghost use Rattle.format.specs.Format.{sliceLen};
 ghost use Rattle.word.specs.Word.{codeOf, scaleOf};
-ghost use Rattle.word.specs.Written.{written};
+ghost use Rattle.word.specs.Parts.{written};
 ghost use Rattle.lms.specs.Predictor.{at};
 ghost use Rattle.lms.specs.declared.QoaLms.{QoaLms};
-ghost use Rattle.scale.specs.Tables.{dequantTab, rowOf};
+ghost use Rattle.scale.specs.Tables.{rowOf};
 ghost use Rattle.trial.specs.Trial.{heard};
 ghost use Rattle.slice.specs.Slice.{residualAt, sampleAt, stateAfter};
 ghost use Rattle.lms.specs.Parts.{WeightsWithin};
 ghost use Rattle.slice.specs.Parts.{GainsOf, HeardTo};
+ghost use Rattle.scale.specs.Parts.{dequantTab};
 
 // The table value of the i-th code of a word, by a row of the table.
 fn value_at(row: &[i32; 8], word: u64, i: usize) -> i32

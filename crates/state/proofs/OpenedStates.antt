@@ -10,7 +10,7 @@ use borrow.Author.Tests.{eqb-false, not-true}
 use lib.Dec.{eqb, lit≤}
 use lib.ListN.{length}
 use Rattle.refusal.specs.Rules.{firstOf}
-use Rattle.word.specs.Written.{table}
+use Rattle.word.specs.Table.{table}
 use Rattle.refusal.proofs.Rules.{Quiet, none-fires, quiet, quiet-parts}
 use Rattle.word.proofs.Tables.{getD-table}
 use Rattle.word.proofs.Tests.{tests}

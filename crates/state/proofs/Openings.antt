@@ -10,10 +10,10 @@ use lib.Dec.{ltb}
 use lib.IntN.{ℤ}
 use lib.ListN.{length}
 use Rattle.refusal.specs.Rules.{Rule, good, refused, _gives_, firstOf}
-use Rattle.word.specs.Written.{table, written}
+use Rattle.word.specs.Table.{table}
 use Rattle.refusal.proofs.Rules.{after-good, after-refused, fires, fires-left, fires-right, good-same, none-fires, quiet}
 use Rattle.word.proofs.Tests.{tests}
-use Rattle.format.specs.FileHeader.{fileHeader, fileRules, isFixed, totalOf}
+use Rattle.format.specs.FileHeader.{fileRules, isFixed, totalOf}
 use Rattle.format.specs.Format.{maxChannels, stateEnd}
 use Rattle.format.specs.Header.{headerAt, leftAt}
 use Rattle.format.specs.Checks.{frameRules}
@@ -31,6 +31,8 @@ use Rattle.state.specs.declared.ProcessingMode.the-variants.{FixedSample
 use Rattle.refusal.specs.declared.Checked.{Checked}
 use Rattle.refusal.specs.declared.Checked.the-variants.{Passed, Refused}
 use Rattle.state.proofs.Views.{stored-lms}
+use Rattle.word.specs.Parts.{written}
+use Rattle.format.specs.Parts.{fileHeader}
 
 -- ---- the first frame
 

@@ -7,13 +7,14 @@ use native.Mathlib.Omega.{arith}
 use lib.Dec.{lit<}
 use lib.IntN.{pos}
 use lib.ListN.{getD, length}
-use Rattle.word.specs.Written.{table, written}
+use Rattle.word.specs.Table.{table}
 use Rattle.word.proofs.Tables.{getD-table, length-table, table-ext}
 use Rattle.word.proofs.Writes.{written-at}
 use Rattle.lms.specs.declared.QoaLms.{QoaLms}
 use Rattle.format.specs.Predictor.{lmsOf, noLms}
 use Rattle.state.specs.View.{view}
 use Rattle.state.specs.declared.QoaDecoder.{QoaDecoder}
+use Rattle.word.specs.Parts.{written}
 
 module _ (d : QoaDecoder) where
   -- the pending samples

@@ -8,7 +8,7 @@ use lib.Dec.{ltb}
 use lib.IntN.{pos}
 use lib.ListN.{replicate}
 use Rattle.refusal.specs.Rules.{Rule, _gives_}
-use Rattle.word.specs.Written.{table}
+use Rattle.word.specs.Table.{table}
 use Rattle.lms.specs.Predictor.{zeroLms}
 use Rattle.format.specs.Format.{maxChannels, pendingLen, stateEnd}
 use Rattle.format.specs.FileHeader.{fileRules, isFixed, totalOf}

@@ -5,7 +5,7 @@ ghost use lib.ListN.{length};
 ghost use Rattle.refusal.specs.Rules.{after, firstOf, good};
 ghost use Rattle.format.specs.FileHeader.{totalOf};
 ghost use Rattle.format.specs.Format.{maxChannels, stateEnd};
-ghost use Rattle.format.specs.Header.{headerAt, toldHeader};
+ghost use Rattle.format.specs.Header.{headerAt};
 ghost use Rattle.state.specs.View.{factsIn, view};
 ghost use Rattle.refusal.specs.declared.Checked.the-variants.{Refused};
 ghost use Rattle.state.specs.Opening.{OpenLeaves, firstRules, openRules, openedFixed, openedStream, zeroState};
@@ -25,6 +25,7 @@ use refusal::Checked;
 use refusal::CountAnswer;
 use refusal::Refusal;
 ghost use Rattle.refusal.specs.Refusals.{toldChecked};
+ghost use Rattle.format.specs.Parts.{toldHeader};
 
 // What is told of a frame by its header.
 pub fn frame_facts(h: FrameHeader) -> FrameFacts

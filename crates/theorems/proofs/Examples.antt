@@ -5,7 +5,7 @@ use lib.IntN.{pos}
 use Rattle.word.specs.Bytes.{byteOf, bytesOf}
 use Rattle.refusal.specs.Rules.{firstOf}
 use Rattle.word.specs.Word.{filled}
-use Rattle.word.specs.Written.{table}
+use Rattle.word.specs.Table.{table}
 use Rattle.wrap.specs.Wrap.{modulo}
 use Rattle.lms.specs.Predictor.{above, clamp16, costOf, dot, newLms, nextWeight, penaltyOf, predicted, stepped, updated, allShort, historyRule}
 use Rattle.scale.specs.Division.{codeFor, codes, dividedBy, placeOf, shifted, signOf}

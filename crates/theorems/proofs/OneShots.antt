@@ -10,7 +10,7 @@ use lib.IntN.{ℤ}
 use lib.ListN.{length, take}
 use lib.Seq.{take-add, take-all}
 use Rattle.refusal.specs.Rules.{good}
-use Rattle.word.specs.Written.{table}
+use Rattle.word.specs.Table.{table}
 use Rattle.word.proofs.Tables.{length-table, table-last}
 use Rattle.format.specs.Format.{frameLen, mostBytes}
 use Rattle.file.specs.Whole.{decode}

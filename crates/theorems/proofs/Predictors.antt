@@ -10,7 +10,7 @@ use mir.Syntax.{w16}
 use mir.Val.{SFits, toZ}
 use Rattle.wrap.specs.Wrap.{low16}
 use Rattle.wrap.proofs.Patterns.{read-low}
-use Rattle.word.specs.Written.{table}
+use Rattle.word.specs.Table.{table}
 use Rattle.word.proofs.Tables.{table-ext}
 use Rattle.lms.specs.Predictor.{at, dot, nextWeight, predicted, updated}
 use Rattle.lms.specs.declared.QoaLms.{QoaLms}

@@ -138,46 +138,46 @@ number refusal r s = same
 
 -- ---- the functions of `reader`: the bytes that a reader holds are the caller's own
 
-pub reader-new : (src : RefT (List ℕ)) (r s : Reader) → (r .src ≡ src) × (r .at ≡ 0) → (s .src ≡ src) × (s .at ≡ 0) → r ≡ s
-reader-new = R.new-settled
+pub new-reader : (src : RefT (List ℕ)) (r s : Reader) → (r .src ≡ src) × (r .at ≡ 0) → (s .src ≡ src) × (s .at ≡ 0) → r ≡ s
+new-reader = R.new-settled
 
-pub reader-moved : (g : Reader) (at : ℕ) (r s : Reader) → (r .src ≡ g .src) × (r .at ≡ at) → (s .src ≡ g .src) × (s .at ≡ at) → r ≡ s
-reader-moved = R.moved-settled
+pub moved-reader : (g : Reader) (at : ℕ) (r s : Reader) → (r .src ≡ g .src) × (r .at ≡ at) → (s .src ≡ g .src) × (s .at ≡ at) → r ≡ s
+moved-reader = R.moved-settled
 
-pub reader-frame-part : (g : Reader) (r s : FramePart)
+pub read-part : (g : Reader) (r s : FramePart)
     → (now (r .part) ≡ partOf (partLength (now (g .src)) (g .at)) (now (g .src)) (g .at)) × (toldCount (r .answer) ≡ partLength (now (g .src)) (g .at))
     → (now (s .part) ≡ partOf (partLength (now (g .src)) (g .at)) (now (g .src)) (g .at)) × (toldCount (s .answer) ≡ partLength (now (g .src)) (g .at))
     → (now (r .part) ≡ now (s .part)) × (r .answer ≡ s .answer)
-reader-frame-part g = R.frame-part-settled (now (g .src)) (g .at)
+read-part g = R.frame-part-settled (now (g .src)) (g .at)
 
-pub reader-open : (src : RefT (List ℕ)) (r s : OpenedReader)
+pub open-reader : (src : RefT (List ℕ)) (r s : OpenedReader)
     → (r .reader .src ≡ src) × (r .reader .at ≡ r .done .state .at) × (toldChecked (r .done .answer) ≡ firstOf (openRules (now src))) × OpenLeaves (firstOf (openRules (now src))) (now src) (r .done .state)
     → (s .reader .src ≡ src) × (s .reader .at ≡ s .done .state .at) × (toldChecked (s .done .answer) ≡ firstOf (openRules (now src))) × OpenLeaves (firstOf (openRules (now src))) (now src) (s .done .state)
     → (r .reader ≡ s .reader) × (r .done .answer ≡ s .done .answer) × (view (r .done .state) ≡ view (s .done .state))
-reader-open = R.reader-open-settled
+open-reader = R.reader-open-settled
 
-pub reader-decode-into : (g : Reader) (d : QoaDecoder) (out : List ℤ) (r s : ReadInto) (x y : List ℤ)
+pub read-into : (g : Reader) (d : QoaDecoder) (out : List ℤ) (r s : ReadInto) (x y : List ℤ)
     → (r .reader .src ≡ g .src) × IntoRead (now (g .src)) (g .at) d out (r .reader .at) (r .done) x
     → (s .reader .src ≡ g .src) × IntoRead (now (g .src)) (g .at) d out (s .reader .at) (s .done) y
     → (r .reader ≡ s .reader) × (r .done .answer ≡ s .done .answer) × (view (r .done .state) ≡ view (s .done .state)) × (x ≡ y)
-reader-decode-into = R.decode-into-settled
+read-into = R.decode-into-settled
 
-pub reader-next-frame : (g : Reader) (d : QoaDecoder) (r s : ReadFrame)
+pub read-frame : (g : Reader) (d : QoaDecoder) (r s : ReadFrame)
     → (r .reader .src ≡ g .src) × FrameRead (now (g .src)) (g .at) d (r .reader .at) (r .done)
     → (s .reader .src ≡ g .src) × FrameRead (now (g .src)) (g .at) d (s .reader .at) (s .done)
     → (r .reader ≡ s .reader) × (r .done .answer ≡ s .done .answer) × (view (r .done .state) ≡ view (s .done .state))
-reader-next-frame = R.next-frame-settled
+read-frame = R.next-frame-settled
 
-pub reader-next-item : (g : Reader) (d : QoaDecoder) (r s : ReadItem)
+pub read-item : (g : Reader) (d : QoaDecoder) (r s : ReadItem)
     → (r .reader .src ≡ g .src) × ItemRead (now (g .src)) (g .at) d (r .reader .at) (r .done)
     → (s .reader .src ≡ g .src) × ItemRead (now (g .src)) (g .at) d (s .reader .at) (s .done)
     → (r .reader ≡ s .reader) × (r .done .item ≡ s .done .item) × (view (r .done .state) ≡ view (s .done .state))
-reader-next-item = R.next-item-settled
+read-item = R.next-item-settled
 
-pub reader-decode-from : (bs : List ℕ) (at : ℕ) (d : QoaDecoder) (out : List ℤ) (r s : DecodedAt) (x y : List ℤ)
+pub decode-from : (bs : List ℕ) (at : ℕ) (d : QoaDecoder) (out : List ℤ) (r s : DecodedAt) (x y : List ℤ)
     → IntoRead bs at d out (r .at) (r .done) x → IntoRead bs at d out (s .at) (s .done) y
     → (r .at ≡ s .at) × (r .done .answer ≡ s .done .answer) × (view (r .done .state) ≡ view (s .done .state)) × (x ≡ y)
-reader-decode-from = R.decode-from-settled
+decode-from = R.decode-from-settled
 
 -- ---- the C functions: the answer is one number (qoa/specs/Coded)
 

@@ -16,7 +16,7 @@ use Rattle.format.specs.Grammar.{Each, IsFrame, joined}
 use Rattle.format.proofs.Tails.{tail-short}
 use Rattle.file.specs.Walk.{Walk, roomRules, samplesOf, walkOf}
 use Rattle.file.specs.Whole.{Audio, audioIn, audioOf, decode}
-use Rattle.file.specs.Streaming.{IsFree, fitting, freeFrames, samplesIn, streamed}
+use Rattle.file.specs.Streaming.{fitting, freeFrames, samplesIn, streamed}
 use Rattle.file.proofs.Decoded.{holds}
 use Rattle.file.proofs.Streamed.{streamed-is}
 use Rattle.whole.specs.Told.{countIn, summaryIn, summaryOf}
@@ -24,6 +24,7 @@ use Rattle.survey.specs.Parts.{fitAfter, fits}
 use Rattle.whole.specs.Parts.{HasRoom, held}
 use Rattle.refusal.specs.declared.Summary.{Summary}
 use Rattle.whole.proofs.Decoding.{joined-held}
+use Rattle.file.specs.Parts.{IsFree}
 
 -- a refusal of what is told of a value is one of the value
 mapped-refused : {A B : Type 0} (f : A → B) (a : Answer A) (n : ℕ) → (a then λ x. good (f x)) ≡ refused n → a ≡ refused n

@@ -19,7 +19,7 @@ use Rattle.format.specs.declared.checks.Kind.the-variants.{Any}
 use Rattle.format.proofs.Checking.{passed}
 use Rattle.file.specs.Frame.{countOf, frameSamples}
 use Rattle.file.specs.Walk.{Walk, pastFrame, frameAt, rulesAt, samplesOf, walkOf, withFrame}
-use Rattle.file.specs.Streaming.{IsFree}
+use Rattle.file.specs.Parts.{IsFree}
 use Rattle.file.proofs.Frames.{Fit, free-fit, header-at}
 use Rattle.file.proofs.Needs.{frame-need}
 use Rattle.file.proofs.Places.{header-here}

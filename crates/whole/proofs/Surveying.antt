@@ -12,7 +12,7 @@ use Rattle.refusal.specs.Rules.{Answer, firstOf, good, refused, unless, _then_}
 use Rattle.refusal.proofs.Rules.{fires, never, none-fires, quiet}
 use Rattle.word.proofs.Tests.{tests}
 use Rattle.format.specs.Format.{mostBytes}
-use Rattle.format.specs.FileHeader.{fileHeader, fileRules, isFixed, totalOf}
+use Rattle.format.specs.FileHeader.{fileRules, isFixed, totalOf}
 use Rattle.format.specs.Header.{headerAt}
 use Rattle.format.specs.Part.{lengthOf}
 use Rattle.format.specs.Grammar.{Each, IsFrame, joined}
@@ -29,6 +29,7 @@ use Rattle.whole.specs.Told.{summaryIn}
 use Rattle.survey.specs.Parts.{audioAfter, fitAfter, fits}
 use Rattle.refusal.specs.declared.Summary.{Summary}
 use Rattle.survey.proofs.Walking.{fits-good, walk-on}
+use Rattle.format.specs.Parts.{fileHeader}
 
 -- ---- before the frames
 

@@ -2,7 +2,7 @@
 ghost use mathlib.Core.Path.{_≡_};
 ghost use Prim.Native.Nat.{_+_, _*_, _≤_};
 ghost use lib.ListN.{length, drop};
-ghost use Rattle.scale.specs.Tables.{dequantTab};
+ghost use Rattle.scale.specs.Parts.{dequantTab};
 ghost use Rattle.format.specs.Format.{maxChannels};
 ghost use Rattle.format.specs.Header.{headerAt};
 ghost use Rattle.format.specs.Part.{lengthOf};

@@ -10,10 +10,11 @@ use lib.Arith.{digits-lt}
 use lib.ListN.{length, getD, take, drop, List·getD-append}
 use lib.Pow.{pow-add}
 use lib.Seq.{getD-take, getD-drop, getD-append-add}
-use Rattle.word.specs.Bytes.{be, byteOf, bytesOf, put}
+use Rattle.word.specs.Bytes.{be, byteOf, bytesOf}
 use Rattle.word.proofs.Push.{next-field}
 use Rattle.word.proofs.Tables.{length-table, getD-table}
 use Rattle.word.proofs.Writes.{length-written, written-at, written-other, written-list}
+use Rattle.word.specs.Parts.{put}
 
 -- ---- where a number is read
 

@@ -8,7 +8,7 @@ use lib.Bits.{bitOr}
 use lib.Dec.{lit<}
 use lib.ListN.{getD}
 use lib.Pow.{high, low}
-use Rattle.word.specs.Written.{table}
+use Rattle.word.specs.Table.{table}
 use Rattle.word.specs.Bytes.{be, byteOf, bytesOf}
 use Rattle.word.specs.Word.{field}
 use Rattle.word.proofs.Push.{push, push-lt}

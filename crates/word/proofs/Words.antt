@@ -4,8 +4,9 @@ use Prim.Native.Nat.{ℕ, zero, suc, _+_, _-_, _*_, _/_, _%_, _^_, _≤_, _<_}
 use native.Mathlib.Nat.{add-zero, add-suc, zero-add, mul-one, mul-assoc, div-one, mod-eq-of-lt}
 use native.Mathlib.Omega.{arith}
 use lib.Pow.{high, low, shr-shr, shl-shr, shl-lt, pow-add}
-use Rattle.word.specs.Word.{scaleOf, codeOf, packed, filled}
+use Rattle.word.specs.Word.{scaleOf, codeOf, filled}
 use Rattle.word.proofs.Push.{push-lt, next-field}
+use Rattle.word.specs.Parts.{packed}
 
 -- only the codes below n count
 pub packed-ext : (s : ℕ) (f g : ℕ → ℕ) (n : ℕ) → ((i : ℕ) → i < n → f i ≡ g i) → packed s f n ≡ packed s g n

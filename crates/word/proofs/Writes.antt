@@ -10,9 +10,9 @@ use native.Mathlib.Nat.{mul-lt-mul-of-pos-right, not-suc-le-zero, le-of-suc-le-s
 use lib.Arith.{digits-lt, digits-mod}
 use lib.ListN.{length, getD, set, take, drop, length-set, length-append, take-append-drop}
 use lib.Seq.{getD-set-same, getD-set-other, ext-getD, set-at, drop-cons, set-append-left, length-take-le, drop-append-seam, append-snoc}
-use Rattle.word.specs.Written.{table, written}
+use Rattle.word.specs.Table.{table}
 use Rattle.word.proofs.Tables.{length-table, table-last}
-use Rattle.word.specs.Parts.{interleaved}
+use Rattle.word.specs.Parts.{interleaved, written}
 
 module _ {A : Type 0} (f : ℕ → A) (out : List A) (start stride : ℕ) where
   pub length-written : (n : ℕ) → length (written f out start stride n) ≡ length out

@@ -2,7 +2,7 @@
 use Prim.Native.Nat.{ℕ, zero, suc, _+_, _-_, _*_, _/_, _%_, _^_}
 use mathlib.Core.List.{List}
 use lib.ListN.{getD}
-use Rattle.word.specs.Written.{table, written}
+use Rattle.word.specs.Table.{table}
 
 -- the number of the n bytes from the place p on
 unfoldable pub be : ℕ → List ℕ → ℕ → ℕ
@@ -31,7 +31,3 @@ byteOf n w i = w / 2 ^ (8 * (n - 1 - i)) % 256
 -- the n bytes of a number
 unfoldable pub bytesOf : ℕ → ℕ → List ℕ
 bytesOf n w = table n (byteOf n w)
-
--- `out` with the n bytes of w stored from the place p on
-abbrev pub put : ℕ → List ℕ → ℕ → ℕ → List ℕ
-put n out p w = written (byteOf n w) out p 1 n

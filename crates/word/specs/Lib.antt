@@ -1,6 +1,6 @@
 -- What the contracts cite.
 pub mod Below
-pub mod Written
+pub mod Table
 pub mod Bytes
 pub mod Little
 pub mod Word

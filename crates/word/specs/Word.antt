@@ -1,5 +1,5 @@
 -- A slice's 64-bit word: a scale factor of four bits, topmost, then twenty codes of three bits. Assumes nothing.
-use Prim.Native.Nat.{ℕ, zero, suc, _+_, _-_, _*_, _/_, _%_, _^_}
+use Prim.Native.Nat.{ℕ, _-_, _*_, _/_, _%_, _^_}
 
 -- the field of so many bits that has so many bits below it
 abbrev pub field : ℕ → ℕ → ℕ → ℕ
@@ -10,11 +10,6 @@ scaleOf w = field 4 60 w
 
 abbrev pub codeOf : ℕ → ℕ → ℕ
 codeOf w i = field 3 (57 - 3 * i) w
-
--- a word built from the top: the scale factor, then n codes, each pushed in from below
-unfoldable pub packed : ℕ → (ℕ → ℕ) → ℕ → ℕ
-packed s f zero = s
-packed s f (suc n) = packed s f n * 8 + f n
 
 -- shifted left 3 bits for each of the twenty codes that is missing
 unfoldable pub filled : ℕ → ℕ → ℕ

@@ -4,8 +4,9 @@ pub mod little;
 ghost use mathlib.Core.Path.{_≡_};
 ghost use Prim.Native.Nat.{_+_, _*_, _^_, _≤_, _<_};
 ghost use lib.ListN.{length};
-ghost use Rattle.word.specs.Bytes.{be, be16, be32, be64, put};
+ghost use Rattle.word.specs.Bytes.{be, be16, be32, be64};
 ghost use Rattle.word.specs.Word.{scaleOf, codeOf, filled};
+ghost use Rattle.word.specs.Parts.{put};
 
 // The number with one byte more, pushed in from below.
 fn push_byte(word: u64, byte: u8) -> u64

@@ -4,7 +4,7 @@ ghost use mathlib.Core.List.{_++_};
 ghost use Prim.Native.Nat.{_+_, _*_, _^_, _≤_, _<_};
 ghost use lib.ListN.{length, take, drop};
 ghost use Rattle.word.specs.Little.{le, leBytes, leSample};
-ghost use Rattle.word.specs.Written.{written};
+ghost use Rattle.word.specs.Parts.{written};
 use crate::push_byte;
 
 // The number of `n` bytes from a place on, for every width of at most 64 bits.

@@ -13,7 +13,7 @@ use Rattle.state.specs.View.{View, view}
 use Rattle.state.specs.States.{goodState}
 use Rattle.state.specs.declared.QoaDecoder.{QoaDecoder}
 use Rattle.into.specs.Into.{groupsEnd}
-use Rattle.frames.specs.Frames.{dropped, frameRead}
+use Rattle.frames.specs.Frames.{pastRest, frameRead}
 use Rattle.into.proofs.Counts.{slices-most}
 use Rattle.frames.proofs.FrameLaws.{enter-end, enter-tail, next-bad, next-cut, next-entered}
 use Rattle.into.proofs.Sound.{Sound, sound}
@@ -116,14 +116,14 @@ module _ (c : tie.After-tail-ok) where
   given = start-of (rest .before)
 
   abbrev gone : View
-  gone = dropped (given .args .bytes .now) (view (given .args .d))
+  gone = pastRest (given .args .bytes .now) (view (given .args .d))
 
   short : leftAt (given .args .bytes .now) (gone .at) < 8
-  unfolding dropped
+  unfolding pastRest
   short = rw (place-is (rest .before)) (c .before .before .if3 .taken)
 
   tail-is : c .tail-ok .result ≡ tailOk (leftAt (given .args .bytes .now) (gone .at)) (frameRead gone)
-  unfolding dropped
+  unfolding pastRest
   tail-is = c .tail-ok .ensures ∙ ap₂ (λ (p : ℕ) (b : Bool). tailOk (leftAt (given .args .bytes .now) p) b) (sym (place-is (rest .before))) (c .before .has-read .ensures)
 
 returns-3 : tie.Need-returns-3
@@ -148,12 +148,12 @@ enter-frame-requires : tie.Need-enter-frame-requires
 enter-frame-requires c κs = search needs
 
 returns-5 : tie.Need-returns-5
-unfolding dropped
+unfolding pastRest
 returns-5 c =
     let sliced = c .before .before .before in
     let args = start-of sliced .args in
     next-entered (args .bytes .now) (args .d) (c .enter-frame .result) (is-good (first-of sliced)) (whole (c .before .before))
-    (c .enter-frame .ensures (dropped (args .bytes .now) (view (args .d))) (same-mode (args .d)) (place-is sliced))
+    (c .enter-frame .ensures (pastRest (args .bytes .now) (view (args .d))) (same-mode (args .d)) (place-is sliced))
 
 pub next-frame-spec : {M : Type 1} → statement M
 next-frame-spec =

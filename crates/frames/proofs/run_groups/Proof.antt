@@ -8,7 +8,7 @@ use lib.Dec.{lit<, lit≤}
 use lib.ListN.{length}
 use Rattle.format.specs.Format.{pendingLen}
 use Rattle.lms.proofs.Bounds.{within-more}
-use Rattle.groups.specs.Groups.{groupsStates}
+use Rattle.groups.specs.Parts.{groupsStates}
 use Rattle.groups.proofs.GroupLaws.{groups-more}
 use Rattle.groups.proofs.Growth.{groups-within}
 use Rattle.into.proofs.Counts.{slices-one}

@@ -7,7 +7,7 @@ use native.Mathlib.Numerals.{add-one}
 use native.Mathlib.Omega.{arith}
 use lib.ListN.{length}
 use Rattle.word.specs.Bytes.{be64}
-use Rattle.word.specs.Written.{written}
+use Rattle.word.specs.Parts.{written}
 use Rattle.word.proofs.Writes.{length-written}
 use Rattle.lms.proofs.Bounds.{within-more}
 use Rattle.format.specs.Format.{slicesOf}

@@ -7,16 +7,16 @@ use native.Mathlib.Numerals.{add-one}
 use native.Mathlib.Omega.{arith}
 use lib.Arith.{digits-lt}
 use lib.ListN.{length}
-use Rattle.word.specs.Written.{written}
+use Rattle.groups.specs.Parts.{groupsStates}
 use Rattle.word.proofs.Writes.{length-interleaved, written-other}
 use Rattle.format.specs.Format.{slicesOf}
 use Rattle.format.specs.Predictor.{lmsOf, noLms}
 use Rattle.groups.specs.Channel.{channelAt, runAfter}
-use Rattle.groups.specs.Groups.{groupsStates, wordAt}
+use Rattle.groups.specs.Groups.{wordAt}
 use Rattle.groups.proofs.GroupLaws.{groups-flat, words-at}
 use Rattle.groups.proofs.Parts.{word-room}
 use Rattle.groups.proofs.decode_groups.Statement.{statement}
-use Rattle.word.specs.Parts.{interleaved}
+use Rattle.word.specs.Parts.{interleaved, written}
 use Rattle.groups.proofs.decode_groups.Tie as tie
 
 abbrev Inv-loop : tie.InvT-loop

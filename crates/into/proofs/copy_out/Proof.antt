@@ -9,7 +9,7 @@ use lib.IntN.{pos}
 use lib.ListN.{getD}
 use mir.Syntax.{w16}
 use Rattle.wrap.proofs.Integers.{returned}
-use Rattle.word.specs.Written.{written}
+use Rattle.word.specs.Parts.{written}
 use Rattle.word.proofs.Writes.{length-written}
 use Rattle.into.proofs.copy_out.Statement.{statement}
 use Rattle.into.proofs.copy_out.Tie as tie

@@ -8,12 +8,12 @@ use borrow.Author.Needs.{needs}
 use lib.Dec.{lit≤}
 use lib.IntN.{ℤ, pos}
 use lib.ListN.{getD, length, replicate, length-replicate}
-use Rattle.word.specs.Written.{written}
+use Rattle.word.specs.Parts.{written}
 use Rattle.word.proofs.Writes.{length-written}
 use Rattle.lms.specs.declared.QoaLms.{QoaLms}
 use Rattle.lms.proofs.Bounds.{within-more}
 use Rattle.format.specs.Format.{maxChannels, pendingLen, slicesOf}
-use Rattle.groups.specs.Groups.{groupsAt, groupsStates}
+use Rattle.groups.specs.Groups.{groupsAt}
 use Rattle.state.specs.View.{view}
 use Rattle.into.specs.Into.{groupsFor}
 use Rattle.into.proofs.Counts.{Split, factor-some, groups-are, last-few, last-le, rest-le, slices-whole, split-at, whole-needed, whole-there}
@@ -21,6 +21,7 @@ use Rattle.into.proofs.Coming.{lastAside, stored-from}
 use Rattle.into.proofs.Sound.{Sound, length-mapped, run-ready, sound}
 use Rattle.into.proofs.Taken.{view-more-left}
 use Rattle.into.proofs.decode_more.Statement.{statement}
+use Rattle.groups.specs.Parts.{groupsStates}
 use Rattle.into.proofs.decode_more.Tie as tie
 
 -- ---- what is known at the start

@@ -2,7 +2,7 @@
 use borrow.Author.Needs.{needs}
 use mathlib.Core.List.{[], _∷_}
 use mir.Syntax.{w32}
-use Rattle.word.specs.Written.{table}
+use Rattle.word.specs.Table.{table}
 use Rattle.wrap.proofs.Integers.{returned}
 use Rattle.format.specs.Parts.{fourOf}
 use Rattle.predictors.proofs.four_of.Statement.{statement}

@@ -4,7 +4,7 @@ use Prim.Native.Nat.{_+_, _-_, _*_, _≤_}
 use native.Mathlib.Nat.{mul-one, zero-add}
 use native.Mathlib.Numerals.{add-one}
 use native.Mathlib.Omega.{arith}
-use Rattle.word.specs.Written.{written}
+use Rattle.word.specs.Parts.{written}
 use Rattle.format.specs.Predictor.{lmsAt}
 use Rattle.predictors.proofs.read_states.Statement.{statement}
 use Rattle.predictors.proofs.read_states.Tie as tie

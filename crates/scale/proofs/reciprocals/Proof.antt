@@ -1,8 +1,9 @@
 -- `scale::reciprocals` meets its contract: the table is computed and compared.
 -- Assumes nothing.
 use mathlib.Core.Path.{refl}
-use Rattle.scale.specs.Tables.{factors, reciprocalTab}
+use Rattle.scale.specs.Tables.{factors}
 use Rattle.scale.proofs.reciprocals.Statement.{statement}
+use Rattle.scale.specs.Parts.{reciprocalTab}
 use Rattle.scale.proofs.reciprocals.Tie as tie
 
 returns : tie.Need-returns

@@ -3,7 +3,7 @@
 use mathlib.Core.Path.{_≡_, refl}
 use Prim.Native.Nat.{_+_, _*_, _-_, _≤_}
 use native.Mathlib.Omega.{arith}
-use Rattle.word.specs.Written.{written}
+use Rattle.word.specs.Parts.{written}
 use Rattle.word.proofs.Writes.{length-written}
 use Rattle.lms.proofs.Bounds.{within-more}
 use Rattle.slice.specs.Slice.{stateAfter}

@@ -7,7 +7,7 @@ use native.Mathlib.Nat.{mul-one}
 use native.Mathlib.Omega.{arith}
 use lib.Bits.{and-mask, mask-lt}
 use Rattle.word.specs.Bytes.{byteOf}
-use Rattle.word.specs.Written.{written}
+use Rattle.word.specs.Parts.{written}
 use Rattle.word.proofs.Writes.{length-written}
 use Rattle.word.proofs.write_be.Statement.{statement}
 use Rattle.word.proofs.write_be.Tie as tie

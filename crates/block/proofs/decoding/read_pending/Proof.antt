@@ -6,7 +6,7 @@ use native.Mathlib.Omega.{arith}
 use lib.IntN.{pos}
 use mir.Syntax.{w16}
 use Rattle.wrap.proofs.Integers.{returned}
-use Rattle.word.specs.Written.{written}
+use Rattle.word.specs.Parts.{written}
 use Rattle.block.specs.DecoderBlock.{sampleIn}
 use Rattle.block.proofs.Holding.{stored-range}
 use Rattle.block.proofs.decoding.read_pending.Statement.{statement}

@@ -7,7 +7,7 @@ use mir.Val.{toZ}
 use Rattle.word.specs.Bytes.{be32}
 use mathlib.Core.List.{[], _∷_}
 use mir.Syntax.{w32}
-use Rattle.word.specs.Written.{table}
+use Rattle.word.specs.Table.{table}
 use Rattle.wrap.proofs.Integers.{returned}
 use Rattle.block.specs.Predictors.{fourIn}
 use Rattle.block.proofs.predictors.four_in.Statement.{statement}

@@ -5,7 +5,7 @@ use mathlib.Core.List.{List}
 use native.Mathlib.Numerals.{add-one}
 use native.Mathlib.Omega.{arith}
 use lib.ListN.{length}
-use Rattle.word.specs.Written.{table}
+use Rattle.word.specs.Table.{table}
 use Rattle.lms.specs.declared.QoaLms.{QoaLms}
 use Rattle.format.specs.Format.{maxChannels}
 use Rattle.format.specs.Predictor.{lmsOf}

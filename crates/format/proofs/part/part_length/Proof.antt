@@ -4,7 +4,7 @@ use mathlib.Core.Path.{ap, sym, _∙_}
 use Prim.Native.Nat.{ℕ}
 use native.Mathlib.Omega.{arith}
 use Rattle.refusal.specs.Rules.{Answer, good}
-use Rattle.format.specs.Header.{toldHeader}
+use Rattle.format.specs.Parts.{toldHeader}
 use Rattle.format.proofs.Parts.{refused-part, cut-part, whole-part}
 use Rattle.format.proofs.part.part_length.Statement.{statement}
 use Rattle.format.proofs.part.part_length.Tie as tie

@@ -4,7 +4,7 @@ use Prim.Native.Nat.{_*_, _≤_, _-_}
 use native.Mathlib.Nat.{zero-add}
 use native.Mathlib.Omega.{arith}
 use lib.ListN.{length}
-use Rattle.word.specs.Written.{written}
+use Rattle.word.specs.Parts.{written}
 use Rattle.word.proofs.Writes.{length-written}
 use Rattle.lines.specs.Hex.{pairAt}
 use Rattle.lines.proofs.OutputLaws.{one-more}

@@ -5,7 +5,7 @@ use native.Mathlib.Nat.{zero-add}
 use native.Mathlib.Omega.{arith}
 use lib.ListN.{length}
 use Rattle.word.specs.Bytes.{be32}
-use Rattle.word.specs.Written.{written}
+use Rattle.word.specs.Parts.{written}
 use Rattle.word.proofs.Writes.{length-written}
 use Rattle.lines.proofs.OutputLaws.{one-more}
 use Rattle.lines.proofs.lists.read_numbers.Statement.{statement}

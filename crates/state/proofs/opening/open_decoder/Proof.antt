@@ -7,8 +7,8 @@ use Prim.Native.Nat.{ℕ}
 use Rattle.refusal.specs.Rules.{Answer, after, firstOf, good}
 use Rattle.refusal.proofs.Rules.{after-good, after-refused, good-same, none-fires}
 use Rattle.word.proofs.BytesLaws.{be-lt-bits}
-use Rattle.format.specs.FileHeader.{fileHeader}
-use Rattle.format.specs.Header.{headerAt, toldHeader}
+use Rattle.format.specs.Parts.{fileHeader, toldHeader}
+use Rattle.format.specs.Header.{headerAt}
 use Rattle.state.specs.Opening.{firstRules}
 use Rattle.state.proofs.Openings.{file-refused, file-total, first-facts, fixed-rules, opens-good, opens-refused, stream-rules}
 use Rattle.state.proofs.opening.open_decoder.Statement.{statement}

@@ -1,6 +1,6 @@
 -- `state::opening::stream_state` meets its contract. Assumes nothing.
 use borrow.Author.Needs.{needs}
-use Rattle.word.specs.Written.{table}
+use Rattle.word.specs.Table.{table}
 use Rattle.state.specs.View.{view}
 use Rattle.state.specs.Opening.{openedStream, zeroState}
 use Rattle.state.proofs.opening.stream_state.Statement.{statement}

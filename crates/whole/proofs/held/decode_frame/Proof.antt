@@ -10,7 +10,7 @@ use lib.IntN.{ℤ}
 use lib.ListN.{length-drop}
 use Rattle.lms.specs.declared.QoaLms.{QoaLms}
 use Rattle.lms.proofs.Bounds.{within-more}
-use Rattle.word.specs.Written.{written}
+use Rattle.word.specs.Parts.{written}
 use Rattle.refusal.specs.Rules.{good}
 use Rattle.refusal.specs.Lent.{laidOver}
 use Rattle.refusal.proofs.Lents.{over-written}

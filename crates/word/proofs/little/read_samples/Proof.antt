@@ -10,7 +10,7 @@ use mir.Syntax.{w16}
 use mir.Val.{toZ}
 use mir.Facts.{toZ-ofZ}
 use Rattle.wrap.proofs.Integers.{fits-of}
-use Rattle.word.specs.Written.{written}
+use Rattle.word.specs.Parts.{written}
 use Rattle.word.specs.Little.{leSample}
 use Rattle.word.proofs.Writes.{length-written}
 use Rattle.word.proofs.little.read_samples.Statement.{statement}
