@@ -23,7 +23,7 @@ pub record EncoderView : Type 0 where
 unfoldable pub encoderView : QoaEncoder → EncoderView
 encoderView e = record { channels = e .channels; rate = e .rate; total = e .total; lms = table (e .channels) (lmsOf (e .lms)) }
 
--- c 1..8, rate 1..16777215, total at least 1, used histories in 16 bits
+-- c from 1 to the limit, rate likewise, total at least 1, used histories in 16 bits
 unfoldable pub goodEncoder : EncoderView → Bool
 goodEncoder v =
     leb 1 (v .channels)
@@ -35,7 +35,7 @@ goodEncoder v =
 
 -- ---- creation
 
--- 11: 0 or over 8 channels; 12: rate 0 or over 16777215; 13: total 0
+-- 11: 0 channels or over the limit; 12: rate 0 or over its limit; 13: total 0
 unfoldable pub createRules : ℕ → ℕ → ℕ → List Rule
 createRules c rate total =
     (eqb c 0 gives 11)

@@ -46,7 +46,7 @@ wholeFile fixed c r = record { frame = rulesAt (likeFirst fixed c r); tail = tai
 abbrev pub someRules : List ℕ → List Rule
 someRules b = (ltb (length b) 8 gives 2) ∷ []
 
--- the first frame, at the start of b, and the walk over those that are to be like it
+-- the first frame, at the start of b, for which 4 never fires since it is like itself, and the walk over those that are to be like it
 unfoldable pub bodyFor : Bool → ℕ → ℕ → List ℕ → Answer Walk
 bodyFor fixed c r b = after (someRules b) (after (rulesAt (likeFirst fixed c r) b) (walkOf (wholeFile fixed c r) (pastFrame b)))
 

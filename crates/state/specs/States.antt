@@ -14,7 +14,7 @@ use Rattle.state.specs.View.{View, channelsOf}
 use Rattle.state.specs.declared.ProcessingMode.{ProcessingMode}
 use Rattle.state.specs.declared.ProcessingMode.the-variants.{FixedSamples, Streaming}
 
--- in fixed mode a total of at least 1 with the first frame's c 1..8 and rate 1..16777215
+-- in fixed mode a total of at least 1 with the first frame's c and rate from 1 to their limits
 unfoldable pub modeRule : ProcessingMode → Bool
 modeRule (FixedSamples total c rate) = leb 1 total && (leb 1 c && (leb c maxChannels && (leb 1 rate && leb rate mostRate)))
 modeRule Streaming = true
@@ -35,7 +35,7 @@ weightBound r = 32768 + 17920 * (3277 - slicesOf r)
 unfoldable pub lmsRule : ℕ → ℕ → List QoaLms → Bool
 lmsRule c bound states = below c (λ j. historyRule (lmsOf states j) && weightRule bound (lmsOf states j))
 
--- all of them, in FORMAT.md's order: place at most the byte count; the mode's; c at most 8; c at least 1 where samples remain; remaining at most n;
+-- all of them, in FORMAT.md's order: place at most the byte count; the mode's; c at most the limit; c at least 1 where samples remain; remaining at most n;
 -- next <= end <= 20c; the predictors'
 unfoldable pub goodState : View → ℕ → Bool
 goodState v bytes =
