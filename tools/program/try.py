@@ -2,14 +2,22 @@
 """Tries the program qoa_decode as a user would, against the source's decoder (target/oracle/oracle).
 
 Run from the repository's root, after `rt check qoa_decode` and `bash tools/oracle/build.sh`. Prints how many runs were
-compared, or the first that differs, with status 1.
+compared, or the first that differs, with status 1. On a machine that is no x86-64 one the program runs under the kit's
+emulator.
 """
 import os
+import platform
 import struct
 import subprocess
 import sys
 
-PROGRAM, ORACLE = "target/bin/qoa_decode", "target/oracle/oracle"
+PROGRAM, ORACLE = ["target/bin/qoa_decode"], "target/oracle/oracle"
+if platform.machine() != "x86_64":
+    doc = subprocess.run(["rt", "doc"], capture_output=True, check=True, text=True).stdout.strip()
+    kit = os.path.dirname(os.path.dirname(doc))
+    emulator = f"{kit}/on/{platform.machine()}/toolchain/bin/qemu-x86_64"
+    library = f"{kit}/toolchain/lib"
+    PROGRAM = [emulator, f"{library}/ld-linux-x86-64.so.2", "--library-path", library] + PROGRAM
 runs = 0
 
 
@@ -19,7 +27,7 @@ def fail(what, *more):
 
 
 def play(data):
-    done = subprocess.run([PROGRAM], input=data, capture_output=True, check=False)
+    done = subprocess.run(PROGRAM, input=data, capture_output=True, check=False)
     return done.stdout, done.stderr
 
 
@@ -116,7 +124,7 @@ def main():
 
     # an input that comes a byte at a time
     global runs
-    p = subprocess.Popen([PROGRAM], stdin=subprocess.PIPE, stdout=subprocess.PIPE, stderr=subprocess.PIPE)
+    p = subprocess.Popen(PROGRAM, stdin=subprocess.PIPE, stdout=subprocess.PIPE, stderr=subprocess.PIPE)
     for b in two:
         p.stdin.write(bytes([b]))
         p.stdin.flush()
@@ -125,17 +133,17 @@ def main():
         fail("a byte at a time")
     # an output that is full: said in words, and not taken for the end
     with open("/dev/full", "wb") as full:
-        done = subprocess.run([PROGRAM], input=small, stdout=full, stderr=subprocess.PIPE, check=False)
+        done = subprocess.run(PROGRAM, input=small, stdout=full, stderr=subprocess.PIPE, check=False)
     if done.stderr != b"write failed\n":
         fail("a full output", done.stderr)
     # a closed output ends the program at once
     read, write = os.pipe()
     os.close(read)
-    done = subprocess.run([PROGRAM], input=small, stdout=write, stderr=subprocess.PIPE, check=False)
+    done = subprocess.run(PROGRAM, input=small, stdout=write, stderr=subprocess.PIPE, check=False)
     os.close(write)
     # an input that can't be read: a folder
     folder = os.open(".", os.O_RDONLY)
-    done = subprocess.run([PROGRAM], stdin=folder, capture_output=True, check=False)
+    done = subprocess.run(PROGRAM, stdin=folder, capture_output=True, check=False)
     os.close(folder)
     if done.stderr != b"read failed\n":
         fail("an input that can't be read", done.stderr)
