@@ -1,3 +1,5 @@
+#![tactic(auto)]
+
 // The predictor of a decoding loop: it holds the sum of its older products ahead, and its weights gain by numbers from memory.
 ghost use Rattle.std.specs.Prelude.{◌≡◌, ◌≤◌, ◌^◌, pos, negsuc, nat_abs, ◌+ℤ◌};
 ghost use Rattle.std.specs.Int.Signed.{lt_z};

@@ -1,3 +1,5 @@
+#![tactic(auto)]
+
 // States as blocks of bytes with a fixed layout: numbers big-endian, signed ones in two's complement.
 pub mod decoding;
 pub mod encoding;

@@ -1,3 +1,5 @@
+#![tactic(auto)]
+
 // A frame's body, stored in lent bytes: the predictor states, then the slice groups, channels in turn.
 ghost use Rattle.std.specs.Prelude.{◌≡◌, ℕ, ◌+◌, ◌*◌, ◌≤◌, ◌<◌, ◌^◌, min, length};
 ghost use Rattle.word.specs.Bytes.{bytes_of};

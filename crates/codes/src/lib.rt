@@ -1,3 +1,5 @@
+#![tactic(auto)]
+
 // How an answer is one signed number for a C caller.
 ghost use Rattle.std.specs.Prelude.{◌≡◌, ◌<◌, ◌^◌, neg_ℤ, pos};
 ghost use Rattle.refusal.specs.Rules.{refused};

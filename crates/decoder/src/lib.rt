@@ -1,3 +1,5 @@
+#![tactic(auto)]
+
 // The calls on a decoder, with the caller's bytes: decoding into a buffer, the next frame, and the item step, which is made here of both.
 pub mod items;
 

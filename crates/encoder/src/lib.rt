@@ -1,3 +1,5 @@
+#![tactic(auto)]
+
 // The encoder: a state by value, and the calls on it with lent samples and lent output.
 use format::frame::QOA_MAX_CHANNELS;
 use lms::QoaLms;

@@ -1,3 +1,5 @@
+#![tactic(auto)]
+
 // The structure of a QOA file: its headers, the checks of a frame and of the end, the frame part, the facts record.
 pub mod checks;
 pub mod facts;

@@ -1,3 +1,5 @@
+#![tactic(auto)]
+
 // The samples of a whole frame, some at a time, each time as little-endian bytes too.
 ghost use Rattle.std.specs.Prelude.{◌≡◌, ◌*◌, ◌≤◌, length};
 ghost use Rattle.format.specs.Format.{pending_len};

@@ -1,3 +1,5 @@
+#![tactic(auto)]
+
 // Moving to the next frame.
 ghost use Rattle.std.specs.Prelude.{◌≡◌, true, ◌+◌, ◌*◌, ◌^◌, ◌≤◌, length};
 ghost use Rattle.format.specs.Format.{max_channels, slices_of, state_end};

@@ -1,3 +1,5 @@
+#![tactic(auto)]
+
 // A channel's slices and slice groups, decoded into lent samples. `tab` is the dequantising table, which a caller holds for a whole frame.
 ghost use Rattle.std.specs.Prelude.{◌≡◌, ℕ, ◌+◌, ◌*◌, ◌^◌, ◌≤◌, ◌<◌, min, length};
 ghost use Rattle.word.specs.Bytes.{be64};

@@ -1,3 +1,5 @@
+#![tactic(auto)]
+
 // Decoding into a buffer: pending samples, then slice groups until the buffer is full or the frame is done.
 ghost use Rattle.std.specs.Prelude.{◌≡◌, true, List, ℕ, ◌+◌, ◌-◌, ◌*◌, ◌≤◌, ◌<◌, min, pos, get_or, length};
 ghost use Rattle.word.specs.Parts.{written};

@@ -1,3 +1,5 @@
+#![tactic(auto)]
+
 // Lines of hex: bytes as hex both ways, the lists of a request, an output that grows.
 pub mod answer;
 pub mod digit;

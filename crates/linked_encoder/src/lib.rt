@@ -1,3 +1,5 @@
+#![tactic(auto)]
+
 // The C interface of an encoder whose state is a block of lent bytes. An answer is a number from 0 on, or minus the number of the refusal.
 ghost use Rattle.std.specs.Prelude.{◌≡◌, ◌≤◌, pos, length};
 ghost use Rattle.encoder.specs.Calls.{told_encode};

@@ -1,3 +1,5 @@
+#![tactic(auto)]
+
 // The predictor of one channel. Products and sums wrap at 32 bits: they are held as low bits and read
 // as a signed number once, at the end.
 ghost use Rattle.std.specs.Prelude.{◌≡◌, ◌^◌, ◌≤◌, ℤ, ◌+ℤ◌, ◌*ℤ◌, nat_lt, unsigned_abs};

@@ -1,3 +1,5 @@
+#![tactic(auto)]
+
 // A whole file in one shot: the file header, then frames of 5120 samples per channel.
 ghost use Rattle.std.specs.Prelude.{◌≡◌, ◌+◌, ◌-◌, ◌*◌, ◌≤◌, ◌<◌, ◌^◌, min, length};
 ghost use Rattle.std.proofs.Math.Option.{none};

@@ -1,3 +1,5 @@
+#![tactic(auto)]
+
 // The program's decisions, with no reading and no writing: what comes next, by the run so far and the bytes that came.
 ghost use Rattle.std.specs.Prelude.{◌≡◌, ◌+◌, ◌≤◌, length};
 ghost use Rattle.refusal.specs.Refusals.{number_of};

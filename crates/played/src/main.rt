@@ -1,3 +1,5 @@
+#![tactic(auto)]
+
 // The program's run on each file that an argument names, for the gate: the file's name, what is written, and what is said, all on standard
 // output. The last file once more, with an output that takes nothing.
 use libc::STDOUT_FILENO;

@@ -1,3 +1,5 @@
+#![tactic(auto)]
+
 // The program's run: bytes are read as far as it wants them, `play` decides what comes next, and samples are written or words said.
 // The run is the same whatever it reads from and writes to, so the gate runs it on files of its own.
 use play::{Decision, Run};

@@ -1,3 +1,5 @@
+#![tactic(auto)]
+
 // A channel's predictor state in a frame: four history and four weight numbers of 16 bits, each four in one word.
 ghost use Rattle.std.specs.Prelude.{◌≡◌, ◌+◌, ◌*◌, ◌<◌, ◌≤◌, length};
 ghost use Rattle.std.specs.Int.{w16};

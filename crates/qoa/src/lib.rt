@@ -1,3 +1,5 @@
+#![tactic(auto)]
+
 // Every public call, in FORMAT.md's order, and the C interface.
 pub mod linked;
 

@@ -1,3 +1,5 @@
+#![tactic(auto)]
+
 // Reads a QOA file on standard input and writes its samples, 16-bit little-endian, on standard output. What is refused or fails is
 // said on standard error, after the samples of the frames before it.
 use stdio::Streams;

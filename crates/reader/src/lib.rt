@@ -1,3 +1,5 @@
+#![tactic(auto)]
+
 // The caller's bytes and a place in them. Each call takes the reader apart and leaves the work to a function over the bytes and the place.
 ghost use Rattle.std.specs.Prelude.{◌≡◌};
 ghost use Rattle.refusal.specs.Rules.{first_of};

@@ -1,3 +1,5 @@
+#![tactic(auto)]
+
 // The refusals with their numbers, and the shapes of answers that several calls share: nothing, a count or a summary, or else a refusal.
 ghost use Rattle.std.specs.Prelude.{◌≡◌};
 ghost use Rattle.refusal.specs.Refusals.{number_of};

@@ -1,3 +1,5 @@
+#![tactic(auto)]
+
 // A line of hex in, a line of hex out. A request is one call of the C interface; the answer is the call's answer and every list that
 // it could write, whole, as it stands after the call. tools/README.md, "vectors", has the form of both.
 ghost use Rattle.std.specs.Prelude.{◌<◌, ◌≤◌, length};

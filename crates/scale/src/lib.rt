@@ -1,3 +1,5 @@
+#![tactic(auto)]
+
 // The tables, and the division by a scale factor.
 mod quick;
 

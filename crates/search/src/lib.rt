@@ -1,3 +1,5 @@
+#![tactic(auto)]
+
 // The search for a slice's scale factor.
 ghost use Rattle.std.specs.Prelude.{◌≡◌, ◌+◌, ◌-◌, ◌*◌, ◌≤◌, ◌<◌, ◌^◌, length, take};
 ghost use Rattle.format.specs.Format.{slice_len};

@@ -1,3 +1,5 @@
+#![tactic(auto)]
+
 // A slice, decoded into lent samples. `tab` is the dequantising table, which a caller holds for a whole frame.
 ghost use Rattle.std.specs.Prelude.{◌≡◌, ℕ, ◌+◌, ◌*◌, ◌^◌, ◌≤◌, ◌<◌, List, ℤ, length};
 ghost use Rattle.format.specs.Format.{slice_len};

@@ -1,3 +1,5 @@
+#![tactic(auto)]
+
 // A decoder's state by value, its rules, opening it, and its facts.
 use format::facts::Facts;
 use format::frame::{QOA_MAX_CHANNELS, QOA_SLICE_LEN};

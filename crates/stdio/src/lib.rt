@@ -1,3 +1,5 @@
+#![tactic(auto)]
+
 // Reading and writing for programs. No contract can say which bytes pass; how many came is said. A read or a write that fails is told in
 // words here, so that a program only has to stop.
 ghost use Rattle.std.specs.Prelude.{length};

@@ -1,3 +1,5 @@
+#![tactic(auto)]
+
 // The survey: every refusal of frames, and how many samples they have, by headers alone. It touches no lent memory.
 ghost use Rattle.std.specs.Prelude.{◌≡◌, ◌+◌, ◌*◌, ◌^◌, ◌≤◌, ◌<◌, min, length, drop};
 ghost use Rattle.refusal.specs.Rules.{first_of};

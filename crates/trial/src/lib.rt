@@ -1,3 +1,5 @@
+#![tactic(auto)]
+
 // One sample, as a decoder hears it and as an encoder tries it at a scale factor.
 ghost use Rattle.std.specs.Prelude.{◌≡◌, ◌≤◌, ◌<◌, ◌^◌, nat_abs, ◌-ℤ◌};
 ghost use Rattle.lms.specs.Predictor.{predicted};

@@ -1,3 +1,5 @@
+#![tactic(auto)]
+
 // Whole files and streaming frames, decoded into lent samples. Two passes: the survey tells every refusal and the need,
 // and then there is nothing left to refuse.
 pub mod held;

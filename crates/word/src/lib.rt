@@ -1,3 +1,5 @@
+#![tactic(auto)]
+
 // Big-endian numbers in bytes, and the fields of a slice's 64-bit word; little-endian samples in `little`.
 pub mod little;
 
