@@ -1,0 +1,14 @@
+-- `word::read_u64` meets its contract: two halves make the number. Assumes nothing.
+use borrow.Author.Rules.{rules}
+use mathlib.Core.Path.{◌∙◌, sym}
+use native.Mathlib.Omega.{arith}
+use Rattle.word.proofs.BytesLaws.{be_join}
+use Rattle.word.proofs.Push.{push}
+use Rattle.word.proofs.read_u64.Goals as goal
+
+pub returns : goal.returns
+returns c =
+    let s = c.before.before.before in
+    let high = c.read_be-high.ensures in
+    let low = c.read_be-low.ensures in
+    push 32 32 high.1 (omega arith) low.1 ∙ rw (high.0, low.0) (sym (be_join 4 4 s.args.bytes.now s.args.at))

@@ -1,0 +1,29 @@
+-- `wrap::signed16` meets its contract. Bits of the upper half are one modulus lower as a signed number.
+-- Assumes nothing.
+use borrow.Author.Rules.{rules}
+use mathlib.Core.Path.{◌≡◌}
+use Prim.Native.Nat.{◌^◌}
+use lib.Dec.{lit≤}
+use lib.IntN.{pos, ◌-ℤ◌}
+use mir.Syntax.{w16, w32}
+use mir.Val.{SFits, to_z}
+use mir.ValLaws.{to_z-Fits}
+use mir.Facts.{to_z-of_z}
+use Rattle.wrap.proofs.Integers.{fits_up}
+use Rattle.wrap.proofs.Patterns.{difference}
+use Rattle.wrap.proofs.signed16.Goals as goal
+
+number : (c : goal.Else-x-lt32768) → to_z w32 c.args.x -ℤ pos (2 ^ 16) ≡ to_z w16 c.args.x
+number c = difference w16 w32 (lit≤ tt) c.ranges.x c.if-x-lt32768.false
+
+fits : (c : goal.Else-x-lt32768) → SFits w16 (to_z w16 c.args.x)
+fits c = to_z-Fits w16 c.args.x c.ranges.x
+
+pub overflow_sub-result : goal.overflow_sub-result
+overflow_sub-result c = rw (number c) (fits_up (fits c) (lit≤ tt))
+
+pub overflow_cast-result-else-x-lt32768-2 : goal.overflow_cast-result-else-x-lt32768-2
+overflow_cast-result-else-x-lt32768-2 c = rw (to_z-of_z (overflow_sub-result c), number c) (fits c)
+
+pub returns-else-x-lt32768 : goal.returns-else-x-lt32768
+returns-else-x-lt32768 c = rw (to_z-of_z (overflow_sub-result c), number c, to_z-of_z (fits c))
