@@ -7,8 +7,8 @@ use Rattle.wrap.specs.Wrap.{wrap32}
 use Rattle.wrap.proofs.Integers.{fits_of, minus_pos, reread, shift_back, shift_fits}
 use Rattle.wrap.proofs.Modulo.{wrap32_fits}
 use Rattle.lms.specs.Predictor.{above, dot, penalty_of}
-use Rattle.lms.proofs.penalty.Statement.{statement}
-use Rattle.lms.proofs.penalty.Tie as tie
+use Rattle.lms.proofs.penalty.Goals as goal
+use Rattle.lms.proofs.penalty.Goals.{After-wrapped_dot-excess, Else-excess-le2303, Start}
 
 -- ---- max(0, z - k)
 
@@ -29,37 +29,31 @@ above-le (negsuc n) k = zero-le
 
 -- ---- the shifted sum
 
-excess : tie.Start → ℤ
+excess : Start → ℤ
 excess s = shr_z (wrap32 (dot s.args.lms.weights s.args.lms.weights)) (2 ^ 18)
 
-held : (c : tie.After-wrapped-dot) → reread w32 (shr_z (reread w32 c.wrapped-dot.result) (2 ^ 18)) ≡ excess c.before.before
+held : (c : After-wrapped_dot-excess) → reread w32 (shr_z (reread w32 c.wrapped_dot-excess.result) (2 ^ 18)) ≡ excess c.before.before
 unfolding excess
-held c = shift_back (2 ^ 18) (fits_of w32 c.wrapped-dot.result c.wrapped-dot.type-inv) ∙ ap (λ (z : ℤ). shr_z z (2 ^ 18)) c.wrapped-dot.ensures
+held c = shift_back (2 ^ 18) (fits_of w32 c.wrapped_dot-excess.result c.wrapped_dot-excess.type_inv) ∙ ap (λ (z : ℤ). shr_z z (2 ^ 18)) c.wrapped_dot-excess.ensures
 
-small : (s : tie.Start) → SFits w32 (pos (above (excess s) 2303))
+small : (s : Start) → SFits w32 (pos (above (excess s) 2303))
 unfolding excess
 small s = sfits_le (above-le (excess s) 2303) (shift_fits (2 ^ 18) (wrap32_fits (dot s.args.lms.weights s.args.lms.weights)))
 
-wrapped-dot-requires : tie.Need-wrapped-dot-requires
-wrapped-dot-requires c κs = search rules
-
 -- the difference, where it is taken
-difference : (c : tie.Else1) → reread w32 (shr_z (reread w32 c.before.wrapped-dot.result) (2 ^ 18)) -ℤ pos 2303 ≡ pos (above (excess c.before.before.before) 2303)
-difference c = rw (held c.before) (above-some (excess c.before.before.before) 2303 (rw (held c.before) at c.if1.false))
+difference : (c : Else-excess-le2303) → reread w32 (shr_z (reread w32 c.wrapped_dot-excess.result) (2 ^ 18)) -ℤ pos 2303 ≡ pos (above (excess c.before.before.before) 2303)
+difference c = rw (held c.before) (above-some (excess c.before.before.before) 2303 (rw (held c.before) at c.if-excess-le2303.false))
 
-sub-result : tie.Need-overflow-sub-result
-sub-result c = rw (difference c) (small c.before.before.before)
+pub overflow_sub-result : goal.overflow_sub-result
+overflow_sub-result c = rw (difference c) (small c.before.before.before)
 
-cast-result : tie.Need-overflow-cast-result
-cast-result c = rw (to_z-of_z (sub-result c), difference c) (tt, record { fits = lt_trans (small c.before.before.before).sfits (lit< tt) })
+pub overflow_cast-result : goal.overflow_cast-result
+overflow_cast-result c = rw (to_z-of_z (overflow_sub-result c), difference c) (tt, record { fits = lt_trans (small c.before.before.before).sfits (lit< tt) })
 
-returns : tie.Need-returns
+pub returns-then-excess-le2303 : goal.returns-then-excess-le2303
 unfolding penalty_of excess
-returns c = above-none (excess c.before.before.before) 2303 (rw (held c.before) at c.if1.true)
+returns-then-excess-le2303 c = above-none (excess c.before.before.before) 2303 (rw (held c.before) at c.if-excess-le2303.true)
 
-returns-2 : tie.Need-returns-2
+pub returns-else-excess-le2303 : goal.returns-else-excess-le2303
 unfolding penalty_of excess
-returns-2 c = rw (to_z-of_z (sub-result c), difference c)
-
-pub penalty-spec : {M : Type 1} → statement M
-penalty-spec = tie.close (tie.spec wrapped-dot-requires sub-result cast-result returns returns-2)
+returns-else-excess-le2303 c = rw (to_z-of_z (overflow_sub-result c), difference c)

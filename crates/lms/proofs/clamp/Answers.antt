@@ -6,8 +6,8 @@ use Rattle.wrap.proofs.Integers.{fits_of}
 use Rattle.wrap.proofs.Linear.{lt_false, mag_parts}
 use Rattle.lms.specs.Predictor.{clamp16}
 use Rattle.lms.proofs.Bounds.{clamp16_kept}
-use Rattle.lms.proofs.clamp.Statement.{statement}
-use Rattle.lms.proofs.clamp.Tie as tie
+use Rattle.lms.proofs.clamp.Goals as goal
+use Rattle.lms.proofs.clamp.Goals.{Else-x-gt32767}
 
 -- ---- the nearest number of 16 bits
 
@@ -26,22 +26,19 @@ range z e f = fits_of w16 z (mag_parts z 32768 (omega (arith, lt_false (pos 3276
 
 -- ---- the needs
 
-returns : tie.Need-returns
-returns c = low c.before.args.x (rw (to_z-of_z c.before.ranges.x) at c.if1.true)
+pub returns-then-x-ltminus32768 : goal.returns-then-x-ltminus32768
+returns-then-x-ltminus32768 c = low c.args.x (rw (to_z-of_z c.ranges.x) at c.if-x-ltminus32768.true)
 
-returns-2 : tie.Need-returns-2
-returns-2 c = high c.before.before.args.x (rw (to_z-of_z c.before.before.ranges.x) at c.if2.true)
+pub returns-then-x-gt32767 : goal.returns-then-x-gt32767
+returns-then-x-gt32767 c = high c.args.x (rw (to_z-of_z c.ranges.x) at c.if-x-gt32767.true)
 
-small : (c : tie.Else2) → SFits w16 c.before.before.args.x
+small : (c : Else-x-gt32767) → SFits w16 c.args.x
 small c =
-    let f = c.before.before.ranges.x in
-    range c.before.before.args.x (rw (to_z-of_z f) at c.before.if1.false) (rw (to_z-of_z f) at c.if2.false)
+    let f = c.ranges.x in
+    range c.args.x (rw (to_z-of_z f) at c.if-x-ltminus32768.false) (rw (to_z-of_z f) at c.if-x-gt32767.false)
 
-cast-result : tie.Need-overflow-cast-result
-cast-result c = rw (to_z-of_z c.before.before.ranges.x) (small c)
+pub overflow_cast-result : goal.overflow_cast-result
+overflow_cast-result c = rw (to_z-of_z c.ranges.x) (small c)
 
-returns-3 : tie.Need-returns-3
-returns-3 c = rw (to_z-of_z c.before.before.ranges.x) (to_z-of_z (small c) ∙ clamp16_kept c.before.before.args.x (small c).sfits)
-
-pub clamp_spec : {M : Type 1} → statement M
-clamp_spec = tie.close (tie.spec returns returns-2 cast-result returns-3)
+pub returns : goal.returns
+returns c = rw (to_z-of_z c.ranges.x) (to_z-of_z (small c) ∙ clamp16_kept c.args.x (small c).sfits)

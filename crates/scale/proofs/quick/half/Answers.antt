@@ -3,8 +3,7 @@
 use Rattle.std.proofs.Common.{◌≡◌, true, false, T, ℤ, pos, negsuc, sym, refl, subst, not-suc-le-zero, ltb→lt, to_z-of_z}
 use lib.Signed.{lt_z}
 use Rattle.scale.specs.Parts.{half_of}
-use Rattle.scale.proofs.quick.half.Statement.{statement}
-use Rattle.scale.proofs.quick.half.Tie as tie
+use Rattle.scale.proofs.quick.half.Goals as goal
 
 below : (v : ℤ) → lt_z v (pos 0) ≡ true → 17 ≡ half_of v
 unfolding half_of
@@ -16,11 +15,8 @@ unfolding half_of
 above (pos n) e = refl
 above (negsuc n) e = absurd (subst T e tt)
 
-returns : tie.Need-returns
-returns c = below c.before.args.v (rw (to_z-of_z c.before.ranges.v) at c.if1.true)
+pub returns-then-v-lt0 : goal.returns-then-v-lt0
+returns-then-v-lt0 c = below c.args.v (rw (to_z-of_z c.ranges.v) at c.if-v-lt0.true)
 
-returns-2 : tie.Need-returns-2
-returns-2 c = above c.before.args.v (rw (to_z-of_z c.before.ranges.v) at c.if1.false)
-
-pub half_spec : {M : Type 1} → statement M
-half_spec = tie.close (tie.spec returns returns-2)
+pub returns-else-v-lt0 : goal.returns-else-v-lt0
+returns-else-v-lt0 c = above c.args.v (rw (to_z-of_z c.ranges.v) at c.if-v-lt0.false)

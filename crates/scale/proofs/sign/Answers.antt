@@ -3,8 +3,7 @@
 use Rattle.std.proofs.Common.{◌≡◌, zero, suc, true, false, T, ℤ, pos, negsuc, sym, refl, subst, not-suc-le-zero, arith, ltb→lt, to_z-of_z, w32, of_z}
 use lib.Signed.{lt_z}
 use Rattle.scale.specs.Division.{sign_of}
-use Rattle.scale.proofs.sign.Statement.{statement}
-use Rattle.scale.proofs.sign.Tie as tie
+use Rattle.scale.proofs.sign.Goals as goal
 
 below : (z : ℤ) → lt_z z (pos 0) ≡ true → negsuc 0 ≡ sign_of z
 unfolding sign_of
@@ -23,14 +22,11 @@ more (pos zero) e b = absurd (b refl)
 more (pos (suc n)) e b = refl
 more (negsuc n) e b = absurd (subst T e tt)
 
-returns : tie.Need-returns
-returns c = below c.before.args.x (rw (to_z-of_z c.before.ranges.x) at c.if1.true)
+pub returns-then-x-lt0 : goal.returns-then-x-lt0
+returns-then-x-lt0 c = below c.args.x (rw (to_z-of_z c.ranges.x) at c.if-x-lt0.true)
 
-returns-2 : tie.Need-returns-2
-returns-2 c = none c.before.before.args.x (rw (to_z-of_z c.before.before.ranges.x) at c.before.if1.false) c.if2.true
+pub returns-then-x-eq0 : goal.returns-then-x-eq0
+returns-then-x-eq0 c = none c.args.x (rw (to_z-of_z c.ranges.x) at c.if-x-lt0.false) c.if-x-eq0.true
 
-returns-3 : tie.Need-returns-3
-returns-3 c = more c.before.before.args.x (rw (to_z-of_z c.before.before.ranges.x) at c.before.if1.false) c.if2.false
-
-pub sign-spec : {M : Type 1} → statement M
-sign-spec = tie.close (tie.spec returns returns-2 returns-3)
+pub returns-else-x-eq0 : goal.returns-else-x-eq0
+returns-else-x-eq0 c = more c.args.x (rw (to_z-of_z c.ranges.x) at c.if-x-lt0.false) c.if-x-eq0.false

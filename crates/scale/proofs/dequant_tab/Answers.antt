@@ -2,13 +2,9 @@
 -- Assumes nothing.
 use Rattle.std.proofs.Common.{refl}
 use Rattle.scale.specs.Tables.{factors, row_for}
-use Rattle.scale.proofs.dequant_tab.Statement.{statement}
 use Rattle.scale.specs.Parts.{dequant_tab}
-use Rattle.scale.proofs.dequant_tab.Tie as tie
+use Rattle.scale.proofs.dequant_tab.Goals as goal
 
-returns : tie.Need-returns
+pub returns : goal.returns
 unfolding dequant_tab row_for factors
 returns c = refl
-
-pub dequant-tab-spec : {M : Type 1} → statement M
-dequant-tab-spec = tie.close (tie.spec returns)
