@@ -10,7 +10,7 @@ ghost use Rattle.lms.specs.Parts.{WeightsWithin};
 use lms::{QoaLms, add_newest, is_short, older_dot};
 
 // The predictor of a decoding loop, with the sum of its three older products, which is known before the newest sample is.
-#[derive(Drop)]
+#[derive(Clone, Copy)]
 pub struct Ahead {
     pub lms: QoaLms,
     pub older: u32,

@@ -45,7 +45,7 @@ const PENDING_AT: usize = PREDICTORS_AT + PREDICTOR_SIZE * QOA_MAX_CHANNELS;
 pub const DECODER_SIZE: usize = PENDING_AT + 2 * PENDING;
 
 // A state out of a block: whether there is one, and the state.
-#[derive(Drop)]
+#[derive(Clone, Copy)]
 pub struct BlockDecoder {
     pub readable: bool,
     pub state: QoaDecoder,

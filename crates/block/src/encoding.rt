@@ -20,7 +20,7 @@ const PREDICTORS_AT: usize = 9;
 pub const ENCODER_SIZE: usize = PREDICTORS_AT + PREDICTOR_SIZE * QOA_MAX_CHANNELS;
 
 // A state out of a block: whether there is one, and the state.
-#[derive(Drop)]
+#[derive(Clone, Copy)]
 pub struct BlockEncoder {
     pub readable: bool,
     pub state: QoaEncoder,

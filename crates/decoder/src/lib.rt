@@ -10,7 +10,7 @@ use refusal::Refusal;
 use state::{FrameFacts, QoaDecoder};
 
 // The next item: a frame header, a sample, or the end.
-#[derive(Drop)]
+#[derive(Clone, Copy)]
 pub enum QoaItem {
     Header(FrameFacts),
     Sample(i16),
@@ -18,7 +18,7 @@ pub enum QoaItem {
     Refused(Refusal),
 }
 
-#[derive(Drop)]
+#[derive(Clone, Copy)]
 pub struct NextItem {
     pub item: QoaItem,
     pub state: QoaDecoder,

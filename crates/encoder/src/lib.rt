@@ -16,7 +16,7 @@ pub use head::write_header;
 use refusal::Checked;
 pub use rules::is_good_encoder;
 
-#[derive(Drop)]
+#[derive(Clone, Copy)]
 pub struct QoaEncoder {
     pub channels: u8,
     pub rate: u32,
@@ -25,28 +25,28 @@ pub struct QoaEncoder {
     pub lms: [QoaLms; QOA_MAX_CHANNELS],
 }
 
-#[derive(Drop)]
+#[derive(Clone, Copy)]
 pub struct CreatedEncoder {
     pub answer: Checked,
     pub state: QoaEncoder,
 }
 
 // How many bytes were written. Refusal 14 tells how many stand in the output, and the first channel that has such a weight.
-#[derive(Drop)]
+#[derive(Clone, Copy)]
 pub enum EncodeAnswer {
     Written(usize),
     Refused(Refusal),
     WeightRange { count: usize, channel: u8 },
 }
 
-#[derive(Drop)]
+#[derive(Clone, Copy)]
 pub struct EncodedBytes {
     pub answer: EncodeAnswer,
     pub state: QoaEncoder,
 }
 
 // The first channel that has a weight out of range.
-#[derive(Drop)]
+#[derive(Clone, Copy)]
 pub enum Wide {
     Nowhere,
     At(u8),

@@ -10,7 +10,7 @@ use crate::frame::{FrameHeader, check_header, state_end};
 use refusal::{Checked, Refusal};
 
 // A file's mode, and the channels and rate of its first frame.
-#[derive(Drop)]
+#[derive(Clone, Copy)]
 pub struct First {
     pub fixed: bool,
     pub channels: u8,
@@ -18,7 +18,7 @@ pub struct First {
 }
 
 // Which frames a call accepts: any, or those like the first of a file.
-#[derive(Drop)]
+#[derive(Clone, Copy)]
 pub enum Kind {
     Any,
     Like(First),

@@ -3,7 +3,7 @@ ghost use Rattle.std.specs.Prelude.{◌≡◌};
 ghost use Rattle.format.specs.Facts.{facts_of};
 
 // `timed` says whether there is a length, in seconds.
-#[derive(Drop)]
+#[derive(Clone, Copy)]
 pub struct Facts {
     pub total: u32,
     pub channels: u8,

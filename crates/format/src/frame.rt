@@ -26,7 +26,7 @@ pub const QOA_MOST_RATE: u32 = 16777215;
 pub const QOA_MOST_BYTES: usize = 4294967295;
 
 // Channels, rate in hertz, samples per channel, and the size field.
-#[derive(Drop)]
+#[derive(Clone, Copy)]
 pub struct FrameHeader {
     pub channels: u8,
     pub rate: u32,
@@ -35,7 +35,7 @@ pub struct FrameHeader {
 }
 
 // A header that passes every check.
-#[derive(Drop)]
+#[derive(Clone, Copy)]
 pub enum HeaderAnswer {
     Good(FrameHeader),
     Refused(Refusal),

@@ -11,14 +11,14 @@ ghost use Rattle.frame_samples.specs.Places.{After};
 use state::QoaDecoder;
 
 // A decoder in a whole frame, after so many samples of it.
-#[derive(Drop)]
+#[derive(Clone, Copy)]
 pub struct InFrame {
     pub decoder: QoaDecoder,
     pub done: usize,
 }
 
 // The next samples: how many, and the decoder after them.
-#[derive(Drop)]
+#[derive(Clone, Copy)]
 pub struct NextBlock {
     pub count: usize,
     pub place: InFrame,

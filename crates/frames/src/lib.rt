@@ -19,14 +19,14 @@ use refusal::{Checked, Refusal};
 use state::{FrameFacts, PENDING, ProcessingMode, QoaDecoder};
 
 // The next frame, or the end.
-#[derive(Drop)]
+#[derive(Clone, Copy)]
 pub enum FrameAnswer {
     Frame(FrameFacts),
     End,
     Refused(Refusal),
 }
 
-#[derive(Drop)]
+#[derive(Clone, Copy)]
 pub struct NextFrame {
     pub answer: FrameAnswer,
     pub state: QoaDecoder,

@@ -13,7 +13,7 @@ use format::frame::QOA_SLICE_LEN;
 use refusal::{CountAnswer, Refusal};
 use state::{PENDING, QoaDecoder};
 
-#[derive(Drop)]
+#[derive(Clone, Copy)]
 pub struct DecodedInto {
     pub answer: CountAnswer,
     pub state: QoaDecoder,
@@ -27,7 +27,7 @@ pub fn lesser(a: usize, b: usize) -> usize
 }
 
 // The pending samples are those from `next` to `end`.
-#[derive(Drop)]
+#[derive(Clone, Copy)]
 struct Range {
     next: usize,
     end: usize,

@@ -11,7 +11,7 @@ ghost use Rattle.lms.specs.Parts.{older_dot, WeightsWithin};
 pub const QOA_LMS_LEN: usize = 4;
 
 // Four numbers of history, the newest last, and a weight for each.
-#[derive(Drop)]
+#[derive(Clone, Copy)]
 pub struct QoaLms {
     pub history: [i32; QOA_LMS_LEN],
     pub weights: [i32; QOA_LMS_LEN],

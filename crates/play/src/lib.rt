@@ -19,7 +19,7 @@ pub const MOST_HELD: usize = 65536;
 pub const MOST_BYTES: u64 = format::QOA_MOST_BYTES as u64;
 
 // What the program waits for.
-#[derive(Drop)]
+#[derive(Clone, Copy)]
 pub enum Stage {
     FileHead,
     FrameHead,
@@ -29,7 +29,7 @@ pub enum Stage {
 
 // What is known between two decisions: how many bytes are kept in the buffer, and up to how many it is to be filled; the bytes read before
 // those; the file's mode, and its first frame's channels and rate, both 0 before it.
-#[derive(Drop)]
+#[derive(Clone, Copy)]
 pub struct Run {
     pub stage: Stage,
     pub held: usize,
@@ -41,14 +41,14 @@ pub struct Run {
 }
 
 // A whole frame at the start of the buffer, of so many bytes, and the run after it.
-#[derive(Drop)]
+#[derive(Clone, Copy)]
 pub struct HeldFrame {
     pub size: usize,
     pub run: Run,
 }
 
 // What comes next: read on, play a frame and go on, or stop with a refusal, with "frame too large" or with nothing to say.
-#[derive(Drop)]
+#[derive(Clone, Copy)]
 pub enum Decision {
     Read(Run),
     Play(HeldFrame),

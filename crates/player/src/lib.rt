@@ -10,7 +10,7 @@ use stdio::Streams;
 const BLOCK: usize = 4096;
 
 // After a turn: whether the run goes on, and the run.
-#[derive(Drop)]
+#[derive(Clone, Copy)]
 struct Step {
     going: bool,
     run: Run,
@@ -33,7 +33,7 @@ fn say_number(streams: Streams, number: u8) {
 }
 
 // How long an input is, and whether a read failed.
-#[derive(Drop)]
+#[derive(Clone, Copy)]
 struct Length {
     all: u64,
     failed: bool,

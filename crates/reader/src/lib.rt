@@ -17,40 +17,40 @@ use state::{OpenedDecoder, QoaDecoder};
 mod places;
 
 // The caller's bytes, and a place in them.
-#[derive(Drop)]
+#[derive(Clone, Copy)]
 pub struct Reader<'a> {
     pub src: &'a [u8],
     pub at: usize,
 }
 
 // The part that is one whole good frame, or nothing and the refusal.
-#[derive(Drop)]
+#[derive(Clone, Copy)]
 pub struct FramePart<'a> {
     pub part: &'a [u8],
     pub answer: CountAnswer,
 }
 
 // A decoder's state at the start of a file, and the reader at its place.
-#[derive(Drop)]
+#[derive(Clone, Copy)]
 pub struct OpenedReader<'a> {
     pub reader: Reader<'a>,
     pub done: OpenedDecoder,
 }
 
 // What a call on a decoder gives, and the reader at the new place; on a refusal both are as they were given.
-#[derive(Drop)]
+#[derive(Clone, Copy)]
 pub struct ReadInto<'a> {
     pub reader: Reader<'a>,
     pub done: DecodedInto,
 }
 
-#[derive(Drop)]
+#[derive(Clone, Copy)]
 pub struct ReadFrame<'a> {
     pub reader: Reader<'a>,
     pub done: NextFrame,
 }
 
-#[derive(Drop)]
+#[derive(Clone, Copy)]
 pub struct ReadItem<'a> {
     pub reader: Reader<'a>,
     pub done: NextItem,

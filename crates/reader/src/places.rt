@@ -6,19 +6,19 @@ use decoder::{DecodedInto, FrameAnswer, NextFrame, NextItem, QoaItem};
 use refusal::CountAnswer;
 use state::QoaDecoder;
 
-#[derive(Drop)]
+#[derive(Clone, Copy)]
 pub struct DecodedAt {
     pub at: usize,
     pub done: DecodedInto,
 }
 
-#[derive(Drop)]
+#[derive(Clone, Copy)]
 pub struct FrameAt {
     pub at: usize,
     pub done: NextFrame,
 }
 
-#[derive(Drop)]
+#[derive(Clone, Copy)]
 pub struct ItemAt {
     pub at: usize,
     pub done: NextItem,

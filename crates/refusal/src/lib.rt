@@ -5,7 +5,7 @@ ghost use Rattle.std.specs.Prelude.{◌≡◌};
 ghost use Rattle.refusal.specs.Refusals.{number_of};
 
 // Why a call refuses.
-#[derive(Drop)]
+#[derive(Clone, Copy)]
 pub enum Refusal {
     NotQoaFile,
     NoSamples,
@@ -23,21 +23,21 @@ pub enum Refusal {
 }
 
 // The end of a list of checks: none refuses, or the first that does.
-#[derive(Drop)]
+#[derive(Clone, Copy)]
 pub enum Checked {
     Passed,
     Refused(Refusal),
 }
 
 // How many there are: bytes, samples, or a total.
-#[derive(Drop)]
+#[derive(Clone, Copy)]
 pub enum CountAnswer {
     Count(usize),
     Refused(Refusal),
 }
 
 // A file's channels and rate, and how many samples it has over all channels.
-#[derive(Drop)]
+#[derive(Clone, Copy)]
 pub struct Summary {
     pub channels: u8,
     pub rate: u32,
@@ -45,7 +45,7 @@ pub struct Summary {
 }
 
 // What is known of a file.
-#[derive(Drop)]
+#[derive(Clone, Copy)]
 pub enum SummaryAnswer {
     Known(Summary),
     Refused(Refusal),

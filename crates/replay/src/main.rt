@@ -24,7 +24,7 @@ const SAMPLES: u8 = 5;
 const FACTS: u8 = 6;
 
 // The numbers of a request, 0 where there are fewer.
-#[derive(Drop)]
+#[derive(Clone, Copy)]
 struct Numbers {
     first: u64,
     second: u64,
@@ -32,7 +32,7 @@ struct Numbers {
 }
 
 // A call's answer as 64 bits.
-#[derive(Drop)]
+#[derive(Clone, Copy)]
 enum Told {
     Bits(u64),
     Unknown,
@@ -239,7 +239,7 @@ fn call(
 }
 
 // Where the lists of a request stand.
-#[derive(Drop)]
+#[derive(Clone, Copy)]
 struct Places {
     numbers: Part,
     bytes: Part,
@@ -468,7 +468,7 @@ fn end_line(line: &[u8], n: usize) -> bool {
 }
 
 // What is held between two reads: how much of a line, and whether to go on.
-#[derive(Drop)]
+#[derive(Clone, Copy)]
 struct Held {
     line: usize,
     more: bool,

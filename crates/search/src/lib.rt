@@ -20,7 +20,7 @@ mod order;
 const NO_RANK: u64 = 0xffff_ffff_ffff_ffff;
 
 // A candidate after some of its samples.
-#[derive(Drop)]
+#[derive(Clone, Copy)]
 pub struct Run {
     pub rank: u64,
     pub word: u64,
@@ -28,28 +28,28 @@ pub struct Run {
 }
 
 // The scale factor that leads, with its finished run.
-#[derive(Drop)]
+#[derive(Clone, Copy)]
 pub struct Leader {
     pub sf: usize,
     pub run: Run,
 }
 
 // The first sample's code at each scale factor, and the key that its cost gives the candidate.
-#[derive(Drop)]
+#[derive(Clone, Copy)]
 pub struct Firsts {
     pub codes: [u8; 16],
     pub keys: [u64; 16],
 }
 
 // The choice, with the number of trials that were made.
-#[derive(Drop)]
+#[derive(Clone, Copy)]
 pub struct Counted {
     pub leader: Leader,
     pub trials: u64,
 }
 
 // A slice: its word and scale factor, the predictor after it, and the number of trials that were made.
-#[derive(Drop)]
+#[derive(Clone, Copy)]
 pub struct Encoded {
     pub word: u64,
     pub sf: usize,

@@ -53,7 +53,7 @@ fn gains_of(row: [i32; 8]) -> [[i32; 2]; 8]
 }
 
 // How many samples of a slice are heard, and the predictor after them.
-#[derive(Drop)]
+#[derive(Clone, Copy)]
 struct Part {
     done: usize,
     lms: QoaLms,

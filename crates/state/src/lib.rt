@@ -19,7 +19,7 @@ pub use rules::is_good;
 pub const PENDING: usize = QOA_SLICE_LEN * QOA_MAX_CHANNELS;
 
 // Fixed: a declared total, and the first frame's channels and rate. Streaming: no total, and both may change.
-#[derive(Drop)]
+#[derive(Clone, Copy)]
 pub enum ProcessingMode {
     FixedSamples {
         samples: u32,
@@ -30,14 +30,14 @@ pub enum ProcessingMode {
 }
 
 // What is told of a frame: channels, rate, samples per channel.
-#[derive(Drop)]
+#[derive(Clone, Copy)]
 pub struct FrameFacts {
     pub channels: u8,
     pub rate: u32,
     pub samples: u16,
 }
 
-#[derive(Drop)]
+#[derive(Clone, Copy)]
 pub struct QoaDecoder {
     pub mode: ProcessingMode,
     // the place in the caller's bytes
@@ -55,14 +55,14 @@ pub struct QoaDecoder {
     pub pending: [i16; PENDING],
 }
 
-#[derive(Drop)]
+#[derive(Clone, Copy)]
 pub struct OpenedDecoder {
     pub answer: Checked,
     pub state: QoaDecoder,
 }
 
 // A decoder's facts.
-#[derive(Drop)]
+#[derive(Clone, Copy)]
 pub enum FactsAnswer {
     Known(Facts),
     Refused(Refusal),

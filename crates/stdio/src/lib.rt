@@ -8,7 +8,7 @@ ghost use Rattle.stdio.specs.Reads.{Filled, ReadOnce, Taken};
 use libc::{STDERR_FILENO, STDIN_FILENO, STDOUT_FILENO};
 
 // Where a program reads, writes, and says words: descriptors.
-#[derive(Drop)]
+#[derive(Clone, Copy)]
 pub struct Streams {
     pub input: i32,
     pub output: i32,
@@ -25,7 +25,7 @@ pub fn standard() -> Streams {
 }
 
 // How many bytes came, and whether a read failed.
-#[derive(Drop)]
+#[derive(Clone, Copy)]
 pub struct Got {
     pub count: usize,
     pub failed: bool,

@@ -11,14 +11,14 @@ ghost use Rattle.lms.specs.Parts.{WeightsWithin};
 use lms::QoaLms;
 
 // A sample that is heard, with the predictor after it.
-#[derive(Drop)]
+#[derive(Clone, Copy)]
 pub struct Heard {
     pub sample: i16,
     pub lms: QoaLms,
 }
 
 // A sample that is tried: its code, the clamped sum that it comes to, its cost, and the predictor after it.
-#[derive(Drop)]
+#[derive(Clone, Copy)]
 pub struct Tried {
     pub code: u8,
     pub sum: i16,

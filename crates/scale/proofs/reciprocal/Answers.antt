@@ -8,4 +8,4 @@ use Rattle.scale.proofs.reciprocal.Goals as goal
 
 pub returns : goal.returns
 unfolding reciprocal_of factor_of factors
-returns c = to_z-of_z (search rules) ∙ entry (λ k. pos (reciprocal_of k)) (pos 0) 16 c.args.sf c.requires
+returns c = to_z-of_z {w = w32} (search rules) ∙ entry (λ k. pos (reciprocal_of k)) (pos 0) 16 c.args.sf c.requires

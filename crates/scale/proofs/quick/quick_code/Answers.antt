@@ -1,6 +1,6 @@
 -- `scale::quick_code` meets its contract, by the law that the code at a residual's place is that of its quotient.
 -- Assumes nothing.
-use Rattle.std.proofs.Common.{◌≡◌, ℕ, ◌+◌, get_or, ℤ, pos, ap, ◌∙◌, ap₂, arith, to_z-of_z, w32, rules}
+use Rattle.std.proofs.Common.{◌≡◌, ℕ, ◌+◌, ◌<◌, get_or, ℤ, pos, ap, ◌∙◌, ap₂, arith, to_z-of_z, w32, rules}
 use Rattle.wrap.proofs.Integers.{returned}
 use Rattle.scale.specs.Division.{shifted}
 use Rattle.scale.specs.Parts.{half_of, quick_place}
@@ -16,11 +16,14 @@ there c =
     let r = returned w32 _ c.place-arg-1.given (ap (λ l. get_or l s.args.sf (pos 0)) s.requires.1 ∙ reciprocal_entry s.args.sf s.requires.0) in
     ap₂ ◌+◌ (c.half.ensures ∙ ap half_of v) (c.place.ensures s.args.sf r ∙ ap (λ (x : ℤ). quick_place (shifted x s.args.sf)) v)
 
+within : (c : After-place) → c.half.result + c.place.result < 34
+within c = rw (there c) (there_lt _ _)
+
 pub bounds-codes-at : goal.bounds-codes-at
-bounds-codes-at c = rw (there (goal.at.bounds-codes-at c).After-place) (there_lt _ _)
+bounds-codes-at c = within (goal.at.bounds-codes-at c).After-place
 
 pub overflow_add-at : goal.overflow_add-at
-overflow_add-at c = record { fits = omega (arith, bounds-codes-at c) }
+overflow_add-at c = record { fits = omega (arith, within c) }
 
 pub returns : goal.returns
 returns c =
