@@ -1,12 +1,10 @@
 -- `slice::drop_codes` meets its contract: what is shifted out lies above the codes that are left. Assumes nothing.
-use borrow.Author.Rules.{rules}
 use mathlib.Core.Path.{◌≡◌, ap, ◌∙◌}
 use Prim.Native.Nat.{ℕ, ◌+◌, ◌-◌, ◌*◌, ◌/◌, ◌%◌, ◌^◌, ◌<◌}
 use native.Mathlib.Omega.{arith}
 use lib.Pow.{field, mod-mod-pow, shl-shr, shr-shr}
 use Rattle.word.specs.Word.{code_of}
-use Rattle.slice.proofs.drop_codes.Statement.{statement}
-use Rattle.slice.proofs.drop_codes.Tie as tie
+use Rattle.slice.proofs.drop_codes.Goals as goal
 
 -- what is shifted out is above the code, and the shift up is undone by a part of the shift down
 shifted : (w n j : ℕ) → n + j < 20 → code_of (w * 2 ^ (3 * n) % 2 ^ 64) j ≡ code_of w (n + j)
@@ -20,14 +18,5 @@ shifted w n j h =
     ∙ ap (λ (m : ℕ). x / 2 ^ m % 8) down
     ∙ ap (λ (m : ℕ). m % 8) (rw (← shr-shr, shl-shr))
 
-mul-result : tie.Need-overflow-mul-result
-mul-result c = search rules
-
-shl-result : tie.Need-overflow-shl-result
-shl-result c = search rules
-
-returns : tie.Need-returns
+pub returns : goal.returns
 returns c j h = shifted c.args.word c.args.n j h
-
-pub drop-codes-spec : {M : Type 1} → statement M
-drop-codes-spec = tie.close (tie.spec mul-result shl-result returns)
