@@ -1,7 +1,6 @@
 -- `state::rules::are_good_states` meets its contract. The invariant: each channel passed is good. Assumes nothing.
 use borrow.Author.Tests.{not-false, not-true}
 use mathlib.Core.Path.{◌≡◌, refl, sym, ◌∙◌}
-use Prim.Native.Nat.{◌-◌}
 use native.Mathlib.Numerals.{add-one}
 use native.Mathlib.Omega.{arith}
 use Rattle.state.specs.States.{lms_rule}

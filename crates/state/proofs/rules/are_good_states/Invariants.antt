@@ -9,6 +9,5 @@ use Rattle.state.proofs.rules.are_good_states.Given as goal
 abbrev pub invariant-loop-j : goal.invariant-loop-j
 invariant-loop-j l = (l.j ≤ l.channels) × (below l.j (channel_rule l.bound l.states) ≡ true)
 
-
 abbrev pub decreases-loop-j : goal.decreases-loop-j
 decreases-loop-j l = l.channels - l.j

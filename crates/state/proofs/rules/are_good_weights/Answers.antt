@@ -2,13 +2,9 @@
 use borrow.Author.Rules.{rules}
 use borrow.Author.Tests.{le-leb, lt-leb}
 use mathlib.Core.Path.{◌≡◌, refl, sym, ap, ◌∙◌}
-use mathlib.Core.Bool.{Bool, true}
-use mathlib.Core.List.{List}
-use Prim.Native.Nat.{ℕ, ◌-◌}
 use native.Mathlib.Numerals.{add-one}
 use native.Mathlib.Omega.{arith}
-use lib.Dec.{leb}
-use lib.IntN.{ℤ, nat_abs}
+use lib.IntN.{nat_abs}
 use lib.ListN.{length}
 use mir.Syntax.{w32}
 use mir.Facts.{to_z-of_z}
@@ -17,12 +13,9 @@ use Rattle.lms.specs.Predictor.{at}
 use Rattle.state.specs.States.{weight_rule}
 use Rattle.word.specs.Below.{below}
 use Rattle.word.proofs.Belows.{below_false, below_more}
+use Rattle.state.proofs.rules.are_good_weights.Invariants.{within}
 use Rattle.state.proofs.rules.are_good_weights.Goals as goal
 use Rattle.state.proofs.rules.are_good_weights.Goals.{After-magnitude, Start}
-
--- of the weight at a place
-abbrev within : ℕ → List ℤ → ℕ → Bool
-within b xs i = leb (nat_abs (at xs i)) b
 
 -- there are four
 four : (s : Start) → length s.args.lms.weights ≡ 4
