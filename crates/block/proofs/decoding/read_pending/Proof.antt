@@ -39,8 +39,8 @@ signed16-requires c κs = tt
 mul-pending : tie.Need-overflow-mul-pending invariant-loop decreases-loop
 mul-pending c = omega arith
 
-array-set-from_pending : tie.Need-array-set-from_pending invariant-loop decreases-loop
-array-set-from_pending c = omega arith
+array-set-from-pending : tie.Need-array-set-from-pending invariant-loop decreases-loop
+array-set-from-pending c = omega arith
 
 add-i : tie.Need-overflow-add-i invariant-loop decreases-loop
 add-i c = omega arith
@@ -76,7 +76,7 @@ read-pending-spec =
     read-u16-requires
     signed16-requires
     mul-pending
-    array-set-from_pending
+    array-set-from-pending
     add-i
     loop-less
     loop-again
