@@ -16,15 +16,12 @@ invariant-samples l =
     (l.i ≤ l.n) × (met : Best) × (rest : List ℕ) × Held l.lms l.samples met l.best l.initial.trials (l.sf ∷ rest) × Coming (first_cost l.lms (at l.samples 0)) (l.key + 1) rest
     × Trying l.lms l.samples met l.best l.sf l.i l.run × (l.trials + 1 ≡ l.initial.trials + l.i)
 
-
 abbrev pub decreases-samples : goal.decreases-samples
 decreases-samples l = l.n - l.i
-
 
 abbrev pub invariant-candidates : goal.invariant-candidates
 invariant-candidates l =
     (met : Best) × (rest : List ℕ) × Held l.lms l.samples met l.best l.trials rest × Due (first_cost l.lms (at l.samples 0)) l.key rest
-
 
 abbrev pub decreases-candidates : goal.decreases-candidates
 decreases-candidates l = 2 ^ 64 - 1 - l.key

@@ -15,6 +15,5 @@ invariant-loop-sf l =
     × ((k : ℕ) → k < l.sf → get_or l.codes k 0 ≡ (tried l.lms (at l.samples 0) k).code)
     × ((k : ℕ) → k < l.sf → get_or l.keys k 0 ≡ key_of (first_cost l.lms (at l.samples 0)) k)
 
-
 abbrev pub decreases-loop-sf : goal.decreases-loop-sf
 decreases-loop-sf l = 16 - l.sf

@@ -15,6 +15,5 @@ invariant-loop-i l =
     × ((k : ℕ) → k < l.i → get_or l.taken k (pos 0) ≡ at l.samples (l.start + k * l.stride))
     × ((k : ℕ) → k < l.i → SFits w16 (at l.samples (l.start + k * l.stride)))
 
-
 abbrev pub decreases-loop-i : goal.decreases-loop-i
 decreases-loop-i l = l.n - l.i

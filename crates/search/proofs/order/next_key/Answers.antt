@@ -1,12 +1,11 @@
 -- `search::order::next_key` meets its contract. The invariant: `least` is the next of the first `f` keys.
 -- Assumes nothing.
-use Prim.Native.Nat.{◌-◌}
 use mathlib.Core.Path.{◌≡◌, refl, ap, sym, ◌∙◌}
-use mathlib.Core.Logic.{⊎_elim}
 use native.Mathlib.Omega.{arith}
 use Rattle.search.specs.Parts.{next_key}
 use Rattle.search.proofs.Keys.{next_lower, next_not_lower, next_below}
 use Rattle.search.proofs.order.next_key.Goals as goal
+use Rattle.search.proofs.order.next_key.Goals.{then-from-key+then-key-least, then-from-key+else-key-least, else-from-key}
 
 pub loop-f-init : goal.loop-f-init
 unfolding next_key
@@ -29,12 +28,11 @@ loop-f-preserved c =
     let a = c.args in
     let o = c.loop-f in (
       omega arith,
-      ⊎_elim
-          (λ w. w.2 ∙ sym (next_lower a.keys.now a.from o.f w.0.taken (rw o.invariant.1 at w.1.taken)))
-          (⊎_elim
-          (λ w. w.2 ∙ o.invariant.1 ∙ sym (next_not_lower a.keys.now a.from o.f w.0.taken (rw o.invariant.1 at w.1.left)))
-          (λ w. w.1 ∙ o.invariant.1 ∙ sym (next_below a.keys.now a.from o.f w.0.left)))
-          c.if-from-key.branch,
+      elim c.if-from-key.branch [
+        | then-from-key+then-key-least w ↦ w.least-is ∙ sym (next_lower a.keys.now a.from o.f w.if-from-key.true (rw o.invariant.1 at w.if-key-least.true))
+        | then-from-key+else-key-least w ↦ w.least-is ∙ o.invariant.1 ∙ sym (next_not_lower a.keys.now a.from o.f w.if-from-key.true (rw o.invariant.1 at w.if-key-least.false))
+        | else-from-key w ↦ w.least-is ∙ o.invariant.1 ∙ sym (next_below a.keys.now a.from o.f w.if-from-key.false)
+      ],
     )
 
 pub returns : goal.returns

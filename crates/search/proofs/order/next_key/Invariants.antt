@@ -8,6 +8,5 @@ use Rattle.search.proofs.order.next_key.Given as goal
 abbrev pub invariant-loop-f : goal.invariant-loop-f
 invariant-loop-f l = (l.f ≤ 16) × (l.least ≡ next_key l.keys l.from l.f)
 
-
 abbrev pub decreases-loop-f : goal.decreases-loop-f
 decreases-loop-f l = 16 - l.f
