@@ -6,7 +6,7 @@ all=" $* " before=''
 until [ "$all" = "$before" ]; do
     before=$all
     for crate in $before; do
-        for dep in $(sed -n "s/#.*//; s/^$crate://p" "$root/crates.txt"); do
+        for dep in $(sed -nE "s/#.*//; s/^$crate( [^:]*)?://p" "$root/crates.txt"); do
             case $all in *" $dep "*) ;; *) [ ! -d "$root/crates/$dep" ] || all="$all$dep " ;; esac
         done
     done

@@ -1,15 +1,12 @@
 #!/usr/bin/env bash
 # Makes the library for C, C++ and Rust under target/library: libtromvask.a, libtromvask.so, include/tromvask.h and tromvask.pc.
 # Needs rt and a C compiler for x86-64, which is what rt compiles for: CC, or the first of cc, x86_64-linux-gnu-gcc and clang that is one. With it
-# come ar and nm (AR and NM name others). What has not changed is not made again.
+# comes nm (NM names another). What has not changed is not made again.
 set -euo pipefail
 export LC_ALL=C
-# The crates that export C functions; the archive of each has all that it needs, and only these functions are seen from outside.
-crates='qoa linked_decoder linked_encoder'
-
 root=$(cd "$(dirname "$0")/../.." && pwd -P)
 out=$root/target/library
-cc=${CC:-} ar=${AR:-ar} nm=${NM:-nm}
+cc=${CC:-} nm=${NM:-nm}
 header=$root/include/tromvask.h
 mkdir -p "$out/parts" "$out/include"
 trap 'rm -rf "$out/new"' EXIT
@@ -20,41 +17,34 @@ for one in cc x86_64-linux-gnu-gcc 'clang --target=x86_64-linux-gnu'; do
 done
 [ -n "$cc" ] || fail 'no C compiler for x86-64 was found (CC names one)'
 
-# What an archive depends on: the toolchain, and the lines of crates.txt and the files of those crates.
-sum() { # NAME
+# What the archive depends on: the toolchain, and the lines of crates.txt and the files of those crates.
+sum() {
     {
         rt version
-        echo "${RATTLE_HOME:-}"
-        for crate in $(bash "$root/tools/library/below.sh" "$1"); do
-            sed -n "s/#.*//; /^$crate:/p" "$root/crates.txt"
+        for crate in $(bash "$root/tools/library/below.sh" tromvask); do
+            sed -n "s/#.*//; /^$crate[ :]/p" "$root/crates.txt"
             (cd "$root/crates/$crate" && find src specs proofs -type f -exec sha256sum {} + 2>/dev/null | sort -k 2)
         done
     } | sha256sum | cut -d' ' -f1
 }
 
-# The archives of the crates.
-for crate in $crates; do
-    [ -d "$root/crates/$crate" ] || fail "crates/$crate is not there"
-    part=$out/parts/lib$crate.a
-    now=$(sum "$crate")
-    if [ -f "$part" ] && [ "$(cat "$out/parts/$crate.sum" 2>/dev/null)" = "$now" ]; then
-        say "$crate has not changed"
-        continue
-    fi
-    say "proving and compiling $crate (rt staticlib $crate)"
-    rm -f "$out/parts/$crate.sum"
-    (cd "$root" && rt staticlib "$crate") 2>&1 | tee "$out/parts/$crate.log" | { grep --line-buffered '^rt:' || true; } ||
-        { cat "$out/parts/$crate.log" >&2; fail "rt staticlib $crate failed"; }
-    cp "$root/target/staticlib/lib$crate.a" "$part"
-    echo "$now" >"$out/parts/$crate.sum"
-done
-
-# One archive of their objects.
-say 'putting them together'
+# The archive of the crate tromvask has all that it needs, and only its functions are seen from outside.
+[ -d "$root/crates/tromvask" ] || fail 'crates/tromvask is not there'
+part=$out/parts/libtromvask.a
+now=$(sum)
+if [ -f "$part" ] && [ "$(cat "$out/parts/tromvask.sum" 2>/dev/null)" = "$now" ]; then
+    say 'the archive has not changed'
+else
+    say 'proving and compiling (rt lib in crates/tromvask)'
+    rm -f "$out/parts/tromvask.sum"
+    (cd "$root/crates/tromvask" && rt lib) >"$out/parts/tromvask.log" 2>&1 ||
+        { cat "$out/parts/tromvask.log" >&2; fail 'rt lib failed'; }
+    cp "$root/crates/tromvask/out/libtromvask.a" "$part"
+    echo "$now" >"$out/parts/tromvask.sum"
+fi
 rm -rf "$out/new"
 mkdir "$out/new"
-for crate in $crates; do (cd "$out/new" && "$ar" x "$out/parts/lib$crate.a"); done
-(cd "$out/new" && "$ar" rcsD libtromvask.a ./*.o)
+cp "$part" "$out/new/libtromvask.a"
 
 # The header's functions and the archive's are the same, each there once; all else is local, and nothing is needed but memcpy and memset.
 declared=$(sed -n 's/^\(int64_t\|double\) \(qoa_[a-z_]*\)(.*/\2/p' "$header" | sort)

@@ -18,16 +18,14 @@ use refusal::{Checked, CountAnswer, Refusal};
 use state::{FactsAnswer, FrameFacts};
 
 // The bytes of a decoder's block.
-#[unsafe(no_mangle)]
-pub extern "C" fn qoa_decoder_size() -> i64
+pub fn qoa_decoder_size() -> i64
     ensures { result ≡ pos decoder_size }
 {
     count(DECODER_SIZE)
 }
 
 // Opens a file: its refusals, then 7 where the block is too short.
-#[unsafe(no_mangle)]
-pub extern "C" fn qoa_decoder_open(bytes: &[u8], state: &mut [u8]) -> i64
+pub fn qoa_decoder_open(bytes: &[u8], state: &mut [u8]) -> i64
     ensures { OpenLinked bytes.now state.old result state.new }
 {
     let opened = state::open_decoder(bytes);
@@ -46,8 +44,7 @@ pub extern "C" fn qoa_decoder_open(bytes: &[u8], state: &mut [u8]) -> i64
 }
 
 // Samples of the current frame into lent memory: how many.
-#[unsafe(no_mangle)]
-pub extern "C" fn qoa_decoder_into(bytes: &[u8], state: &mut [u8], out: &mut [i16]) -> i64
+pub fn qoa_decoder_into(bytes: &[u8], state: &mut [u8], out: &mut [i16]) -> i64
     ensures { IntoLinked bytes.now state.old out.old result state.new out.new }
 {
     let given = block::read_decoder(state);
@@ -77,8 +74,7 @@ fn frame_code(frame: FrameFacts) -> usize
 }
 
 // On to the next frame: 0 at the end, or the frame's number.
-#[unsafe(no_mangle)]
-pub extern "C" fn qoa_decoder_next_frame(bytes: &[u8], state: &mut [u8]) -> i64
+pub fn qoa_decoder_next_frame(bytes: &[u8], state: &mut [u8]) -> i64
     ensures { NextLinked bytes.now state.old result state.new }
 {
     let current = block::read_decoder(state);
@@ -103,8 +99,7 @@ pub extern "C" fn qoa_decoder_next_frame(bytes: &[u8], state: &mut [u8]) -> i64
 }
 
 // The next item: 0 at the end, a header or a sample with its mark.
-#[unsafe(no_mangle)]
-pub extern "C" fn qoa_decoder_next_item(bytes: &[u8], state: &mut [u8]) -> i64
+pub fn qoa_decoder_next_item(bytes: &[u8], state: &mut [u8]) -> i64
     ensures { ItemLinked bytes.now state.old result state.new }
 {
     let held = block::read_decoder(state);
@@ -155,8 +150,7 @@ fn put_facts(facts: &mut [u32], known: Facts)
 }
 
 // Total, channels and rate into lent memory.
-#[unsafe(no_mangle)]
-pub extern "C" fn qoa_decoder_facts(bytes: &[u8], state: &[u8], facts: &mut [u32]) -> i64
+pub fn qoa_decoder_facts(bytes: &[u8], state: &[u8], facts: &mut [u32]) -> i64
     ensures { FactsLinked state.now (length bytes.now) facts.old result facts.new }
 {
     match facts_in(bytes, state) {
@@ -172,8 +166,7 @@ pub extern "C" fn qoa_decoder_facts(bytes: &[u8], state: &[u8], facts: &mut [u32
 }
 
 // The length in seconds, 0.0 where there is none; minus 8 on a refusal.
-#[unsafe(no_mangle)]
-pub extern "C" fn qoa_decoder_seconds(bytes: &[u8], state: &[u8]) -> f64
+pub fn qoa_decoder_seconds(bytes: &[u8], state: &[u8]) -> f64
     ensures { result ≡ coded_seconds (facts_on state.now (length bytes.now) then λ f. good f.length) }
 {
     match facts_in(bytes, state) {

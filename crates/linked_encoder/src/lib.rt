@@ -13,16 +13,14 @@ use encoder::{EncodeAnswer, QoaEncoder};
 use refusal::{Checked, Refusal};
 
 // The bytes of an encoder's block.
-#[unsafe(no_mangle)]
-pub extern "C" fn qoa_encoder_size() -> i64
+pub fn qoa_encoder_size() -> i64
     ensures { result ≡ pos encoder_size }
 {
     count(ENCODER_SIZE)
 }
 
 // A new encoder: 11, 12, 13, then 7 where the block is too short.
-#[unsafe(no_mangle)]
-pub extern "C" fn qoa_encoder_new(channels: u8, rate: u32, total: u32, state: &mut [u8]) -> i64
+pub fn qoa_encoder_new(channels: u8, rate: u32, total: u32, state: &mut [u8]) -> i64
     ensures { NewLinked channels rate total state.old result state.new }
 {
     let created = encoder::new_encoder(channels, rate, total);
@@ -41,8 +39,7 @@ pub extern "C" fn qoa_encoder_new(channels: u8, rate: u32, total: u32, state: &m
 }
 
 // The file header into lent bytes: how many.
-#[unsafe(no_mangle)]
-pub extern "C" fn qoa_encoder_header(state: &[u8], out: &mut [u8]) -> i64
+pub fn qoa_encoder_header(state: &[u8], out: &mut [u8]) -> i64
     ensures { HeaderLinked state.now out.old result out.new }
 {
     let shown = block::read_encoder(state);
@@ -70,8 +67,7 @@ fn keep(state: &mut [u8], answer: EncodeAnswer, after: QoaEncoder)
 }
 
 // A frame into lent bytes: how many. The state goes on.
-#[unsafe(no_mangle)]
-pub extern "C" fn qoa_encoder_frame(state: &mut [u8], samples: &[i16], out: &mut [u8]) -> i64
+pub fn qoa_encoder_frame(state: &mut [u8], samples: &[i16], out: &mut [u8]) -> i64
     ensures { FrameLinked state.old samples.now out.old result state.new out.new }
 {
     let given = block::read_encoder(state);
@@ -87,8 +83,7 @@ pub extern "C" fn qoa_encoder_frame(state: &mut [u8], samples: &[i16], out: &mut
 }
 
 // A whole file into lent bytes: how many. The state goes on.
-#[unsafe(no_mangle)]
-pub extern "C" fn qoa_encoder_file(state: &mut [u8], samples: &[i16], out: &mut [u8]) -> i64
+pub fn qoa_encoder_file(state: &mut [u8], samples: &[i16], out: &mut [u8]) -> i64
     ensures { FileLinked state.old samples.now out.old result state.new out.new }
 {
     let held = block::read_encoder(state);

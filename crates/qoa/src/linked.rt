@@ -19,8 +19,7 @@ use refusal::{Checked, CountAnswer, SummaryAnswer};
 use state::FactsAnswer;
 
 // A whole file into lent samples: how many. Nothing past them is touched, and nothing at all on a refusal.
-#[unsafe(no_mangle)]
-pub extern "C" fn qoa_decode_all(bytes: &[u8], out: &mut [i16]) -> i64
+pub fn qoa_decode_all(bytes: &[u8], out: &mut [i16]) -> i64
     ensures answer { result ≡ coded (sample_count (decode (length out.old) bytes.now)) }
     ensures samples { out.new ≡ laid_over out.old 0 (heard_in (decode (length out.old) bytes.now)) }
 {
@@ -31,8 +30,7 @@ pub extern "C" fn qoa_decode_all(bytes: &[u8], out: &mut [i16]) -> i64
 }
 
 // How many samples a whole file has, over all channels.
-#[unsafe(no_mangle)]
-pub extern "C" fn qoa_decode_need(bytes: &[u8]) -> i64
+pub fn qoa_decode_need(bytes: &[u8]) -> i64
     ensures { result ≡ coded (sample_count (audio_in bytes.now)) }
 {
     match whole::decode_need(bytes) {
@@ -42,8 +40,7 @@ pub extern "C" fn qoa_decode_need(bytes: &[u8]) -> i64
 }
 
 // The channels of a whole file.
-#[unsafe(no_mangle)]
-pub extern "C" fn qoa_channels(bytes: &[u8]) -> i64
+pub fn qoa_channels(bytes: &[u8]) -> i64
     ensures { result ≡ coded (channels_in (audio_in bytes.now)) }
 {
     match whole::decode_need(bytes) {
@@ -53,8 +50,7 @@ pub extern "C" fn qoa_channels(bytes: &[u8]) -> i64
 }
 
 // The rate of a whole file.
-#[unsafe(no_mangle)]
-pub extern "C" fn qoa_rate(bytes: &[u8]) -> i64
+pub fn qoa_rate(bytes: &[u8]) -> i64
     ensures { result ≡ coded (rate_in (audio_in bytes.now)) }
 {
     match whole::decode_need(bytes) {
@@ -64,8 +60,7 @@ pub extern "C" fn qoa_rate(bytes: &[u8]) -> i64
 }
 
 // Whole frames one after another into lent samples: how many.
-#[unsafe(no_mangle)]
-pub extern "C" fn qoa_decode_frames(bytes: &[u8], out: &mut [i16]) -> i64
+pub fn qoa_decode_frames(bytes: &[u8], out: &mut [i16]) -> i64
     ensures answer { result ≡ coded (count_in (streamed (length out.old) bytes.now)) }
     ensures samples { out.new ≡ laid_over out.old 0 (streamed (length out.old) bytes.now) }
 {
@@ -76,8 +71,7 @@ pub extern "C" fn qoa_decode_frames(bytes: &[u8], out: &mut [i16]) -> i64
 }
 
 // The length of the frame part at a place.
-#[unsafe(no_mangle)]
-pub extern "C" fn qoa_part_length(bytes: &[u8], at: usize) -> i64
+pub fn qoa_part_length(bytes: &[u8], at: usize) -> i64
     ensures { result ≡ coded (part_length bytes.now at) }
 {
     match format::part_length(bytes, at) {
@@ -102,8 +96,7 @@ fn opened_facts(bytes: &[u8]) -> FactsAnswer
 }
 
 // The declared total of samples per channel; 0 is a stream.
-#[unsafe(no_mangle)]
-pub extern "C" fn qoa_facts_total(bytes: &[u8]) -> i64
+pub fn qoa_facts_total(bytes: &[u8]) -> i64
     ensures { result ≡ coded (opened_facts bytes.now then λ f. good f.total) }
 {
     match opened_facts(bytes) {
@@ -113,8 +106,7 @@ pub extern "C" fn qoa_facts_total(bytes: &[u8]) -> i64
 }
 
 // The first frame's channels; 0 in a stream, of which no frame is read.
-#[unsafe(no_mangle)]
-pub extern "C" fn qoa_facts_channels(bytes: &[u8]) -> i64
+pub fn qoa_facts_channels(bytes: &[u8]) -> i64
     ensures { result ≡ coded (opened_facts bytes.now then λ f. good f.channels) }
 {
     match opened_facts(bytes) {
@@ -124,8 +116,7 @@ pub extern "C" fn qoa_facts_channels(bytes: &[u8]) -> i64
 }
 
 // The first frame's rate; 0 in a stream.
-#[unsafe(no_mangle)]
-pub extern "C" fn qoa_facts_rate(bytes: &[u8]) -> i64
+pub fn qoa_facts_rate(bytes: &[u8]) -> i64
     ensures { result ≡ coded (opened_facts bytes.now then λ f. good f.rate) }
 {
     match opened_facts(bytes) {
@@ -135,8 +126,7 @@ pub extern "C" fn qoa_facts_rate(bytes: &[u8]) -> i64
 }
 
 // The length in seconds; 0.0 in a stream, which has none. A refusal is minus its number.
-#[unsafe(no_mangle)]
-pub extern "C" fn qoa_facts_seconds(bytes: &[u8]) -> f64
+pub fn qoa_facts_seconds(bytes: &[u8]) -> f64
     ensures { result ≡ coded_seconds (opened_facts bytes.now then λ f. good f.length) }
 {
     match opened_facts(bytes) {
@@ -146,8 +136,7 @@ pub extern "C" fn qoa_facts_seconds(bytes: &[u8]) -> f64
 }
 
 // Samples into a whole file in lent bytes: how many bytes.
-#[unsafe(no_mangle)]
-pub extern "C" fn qoa_encode_all(
+pub fn qoa_encode_all(
     channels: u8,
     rate: u32,
     total: u32,
@@ -161,8 +150,7 @@ pub extern "C" fn qoa_encode_all(
 }
 
 // How many bytes a whole file takes.
-#[unsafe(no_mangle)]
-pub extern "C" fn qoa_encode_need(channels: u8, total: u32) -> i64
+pub fn qoa_encode_need(channels: u8, total: u32) -> i64
     ensures { result ≡ coded (after (need_rules channels total) (good (need_of channels total))) }
 {
     match oneshot::encode_need(channels, total) {

@@ -1,26 +1,26 @@
 #![tactic(auto)]
 
-// Reading and writing for programs. No contract can say which bytes pass; how many came is said. A read or a write that fails is told in
-// words here, so that a program only has to stop.
+// Reading and writing for programs: standard input, standard output, standard error. No contract can say which bytes pass; how many
+// came is said. A read or a write that fails is told on standard error here, so that a program only has to stop.
 ghost use Rattle.std.specs.Prelude.{length};
 ghost use Rattle.stdio.specs.Reads.{Filled, ReadOnce, Taken};
 
-use libc::{STDERR_FILENO, STDIN_FILENO, STDOUT_FILENO};
+use std::io::{Read, Stderr, Stdin, Stdout, Write};
 
-// Where a program reads, writes, and says words: descriptors.
+// The standard streams: where a program reads, writes, and says words.
 #[derive(Clone, Copy)]
 pub struct Streams {
-    pub input: i32,
-    pub output: i32,
-    pub words: i32,
+    pub input: Stdin,
+    pub output: Stdout,
+    pub words: Stderr,
 }
 
-// Standard input, standard output and standard error.
-pub fn standard() -> Streams {
+// The streams of a program that was started with this runtime.
+pub fn standard(rt: HostRuntime) -> Streams {
     Streams {
-        input: STDIN_FILENO,
-        output: STDOUT_FILENO,
-        words: STDERR_FILENO,
+        input: rt.stdin(),
+        output: rt.stdout(),
+        words: rt.stderr(),
     }
 }
 
@@ -31,32 +31,37 @@ pub struct Got {
     pub failed: bool,
 }
 
-// Says words. Answers whether all of them were taken.
+// Says words on standard error. Answers whether all of them were taken.
 pub fn say(streams: Streams, words: &[u8]) -> bool
     ensures { Taken words.now result }
 {
     if words.len() == 0 {
         return true;
     }
-    io::write_all(streams.words, words)
+    let mut to = streams.words;
+    match to.write_all(words) {
+        Ok(()) => true,
+        Err(_) => false,
+    }
 }
 
-// One read into the buffer: a chunk, or nothing at the end.
+// One read from standard input into the buffer: a chunk, or nothing at the end.
 pub fn read_chunk(streams: Streams, buffer: &mut [u8]) -> Got
     ensures { ReadOnce (length buffer.old) result }
 {
-    let got = libc::read(streams.input, buffer);
-    if got < 0 {
-        say(streams, b"read failed\n");
-        return Got {
-            count: 0,
-            failed: true,
-        };
-    }
-    let count = io::count(got, buffer);
-    Got {
-        count,
-        failed: false,
+    let mut from = streams.input;
+    match from.read(buffer) {
+        Ok(count) => Got {
+            count,
+            failed: false,
+        },
+        Err(_) => {
+            say(streams, b"read failed\n");
+            Got {
+                count: 0,
+                failed: true,
+            }
+        }
     }
 }
 
@@ -84,26 +89,19 @@ pub fn fill(streams: Streams, buffer: &mut [u8]) -> Got
     }
 }
 
-// Writes all of a buffer. Answers whether all of it was taken.
+// Writes all of a buffer to standard output. Answers whether all of it was taken.
 pub fn write_out(streams: Streams, bytes: &[u8]) -> bool
     ensures { Taken bytes.now result }
 {
     if bytes.len() == 0 {
         return true;
     }
-    if io::write_all(streams.output, bytes) {
-        return true;
+    let mut to = streams.output;
+    match to.write_all(bytes) {
+        Ok(()) => true,
+        Err(_) => {
+            say(streams, b"write failed\n");
+            false
+        }
     }
-    say(streams, b"write failed\n");
-    false
-}
-
-// Whether the program was started with arguments.
-pub fn has_arguments() -> bool {
-    1 < os::arg_count()
-}
-
-// Whether standard input is a terminal, where a person would have to type a file.
-pub fn from_terminal() -> bool {
-    libc::isatty(STDIN_FILENO) == 1
 }

@@ -1,0 +1,40 @@
+-- `lines::lists::read_bytes` meets its contract. The loop's invariant: the first `i` bytes are stored. Assumes nothing.
+use mathlib.Core.Path.{◌≡◌, refl}
+use native.Mathlib.Nat.{zero-add}
+use native.Mathlib.Omega.{arith}
+use lib.ListN.{length}
+use Rattle.word.specs.Parts.{written}
+use Rattle.word.proofs.Writes.{length_written}
+use Rattle.lines.specs.Output.{byte_at}
+use Rattle.lines.proofs.OutputLaws.{one_more}
+use Rattle.lines.proofs.lists.read_bytes.Goals as goal
+
+pub loop-i-init : goal.loop-i-init
+unfolding written
+loop-i-init c = (omega arith, refl, refl)
+
+pub bounds-bytes-i : goal.bounds-bytes-i
+bounds-bytes-i c = omega arith
+
+pub bounds-out-i : goal.bounds-out-i
+bounds-out-i c = rw (c.loop-i.invariant.2, length_written) (omega arith)
+
+pub overflow_step-i : goal.overflow_step-i
+overflow_step-i c = omega arith
+
+pub loop-i-smaller : goal.loop-i-smaller
+loop-i-smaller c = omega arith
+
+pub loop-i-preserved : goal.loop-i-preserved
+loop-i-preserved c =
+    let l = c.loop-i in
+    (omega arith, refl, rw l.invariant.2 (simp zero-add at (one_more (byte_at c.args.bytes.now) c.args.out.now 0 l.i)))
+
+pub shape_of-out : goal.shape_of-out
+shape_of-out c = rw c.loop-i.invariant.2 (length_written _ _ _ _ _)
+
+pub returns : goal.returns
+returns c =
+    let l = c.loop-i in
+    let done : l.i ≡ length c.args.out.now = omega arith in
+    rw done at l.invariant.2
