@@ -10,20 +10,18 @@ from=$(bash "$root/tools/oracle/source.sh")
 mkdir -p "$out"
 bash "$root/tools/library/build.sh"
 
-# The port's own loop over decode_into, with its state by value, which the C interface is compared with: glue in a crate of its own. What is
-# proved above is not proved again.
+# The port's own loop over decode_into, with its state by value, which the C interface is compared with: glue in a crate of its own. 
 repo=$out/repo
 rm -rf "$repo"
-mkdir -p "$repo/crates/blocks/src" "$repo/crates/blocks/proofs/blocks_decode" "$repo/target"
+mkdir -p "$repo/crates/blocks/src" "$repo/crates/blocks/proofs/blocks_decode"
 for crate in $(bash "$root/tools/library/below.sh" state decoder); do
     cp -r "$root/crates/$crate" "$repo/crates/"
     grep "^$crate:" "$root/crates.txt"
 done >"$repo/crates.txt"
-echo 'blocks: refusal state into frames decoder' >>"$repo/crates.txt"
+echo 'blocks staticlib: refusal state into frames decoder' >>"$repo/crates.txt"
 cp "$here/blocks.rt.txt" "$repo/crates/blocks/src/lib.rt"
 cp "$here/blocks_decode.antt.txt" "$repo/crates/blocks/proofs/blocks_decode/Proof.antt"
-cp -r "$root/target/rlib" "$root/target/stamp" "$repo/target/"
-(cd "$repo" && rt staticlib blocks) >"$out/blocks.log" 2>&1 || { cat "$out/blocks.log" >&2; exit 1; }
+(cd "$repo/crates/blocks" && rt lib) >"$out/blocks.log" 2>&1 || { cat "$out/blocks.log" >&2; exit 1; }
 
 rustc --edition 2021 -C opt-level=3 --crate-type rlib --crate-name qoaudio "$from" -o "$out/libqoaudio.rlib"
 reference=()
@@ -32,5 +30,5 @@ if [ -n "${QOA_H:-}" ]; then
     reference=(--cfg reference -C link-arg="$out/reference.o")
 fi
 rustc --edition 2021 -C opt-level=3 --extern qoaudio="$out/libqoaudio.rlib" --check-cfg 'cfg(reference)' "${reference[@]}" \
-    -C link-arg="$root/target/library/libtromvask.a" -C link-arg="$repo/target/staticlib/libblocks.a" "$here/bench.rs" -o "$out/bench"
+    -C link-arg="$root/target/library/libtromvask.a" -C link-arg="$repo/crates/blocks/out/libblocks.a" "$here/bench.rs" -o "$out/bench"
 "$out/bench" "$@"

@@ -15,13 +15,13 @@ for crate in $(bash "$root/tools/library/below.sh" lms scale search); do
     cp -r "$root/crates/$crate" "$repo/crates/"
     grep "^$crate:" "$root/crates.txt"
 done >"$repo/crates.txt"
-echo 'slices: lms scale search' >>"$repo/crates.txt"
+echo 'slices staticlib: lms scale search' >>"$repo/crates.txt"
 cp "$here/slices.rt.txt" "$repo/crates/slices/src/lib.rt"
-(cd "$repo" && rt staticlib slices) >"$out/rt.log" 2>&1 || { cat "$out/rt.log" >&2; exit 1; }
+(cd "$repo/crates/slices" && rt lib) >"$out/rt.log" 2>&1 || { cat "$out/rt.log" >&2; exit 1; }
 
 # The Rust side: the unchanged source, with a module after it that lends out its private search.
 cat "$from" "$here/appended.rs" >"$out/qoaudio.rs"
 rustc --edition 2021 -C opt-level=3 --crate-type rlib --crate-name qoaudio "$out/qoaudio.rs" -o "$out/libqoaudio.rlib"
 rustc --edition 2021 -C opt-level=3 --extern qoaudio="$out/libqoaudio.rlib" \
-    -C link-arg="$repo/target/staticlib/libslices.a" "$here/compare.rs" -o "$out/compare"
+    -C link-arg="$repo/crates/slices/out/libslices.a" "$here/compare.rs" -o "$out/compare"
 "$out/compare" "$@"

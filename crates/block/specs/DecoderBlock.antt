@@ -1,7 +1,7 @@
 -- A decoder's state as a block of bytes, numbers big-endian. Assumes nothing.
 use Rattle.std.specs.Prelude.{ℕ, ◌+◌, ◌-◌, ◌*◌, Bool, cond, ◌&&◌, List, ◌++◌, eqb, leb, ltb, ℤ, pos, get_or, length}
 use Rattle.std.specs.Int.{w16}
-use Rattle.std.proofs.Common.{to_z}
+use mir.Val.{to_z}
 use Rattle.wrap.specs.Wrap.{low16}
 use Rattle.word.specs.Bytes.{be16, be32, be64, bytes_of}
 use Rattle.word.specs.Table.{table}

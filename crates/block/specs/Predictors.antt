@@ -1,7 +1,7 @@
 -- Predictors in a block: for each channel four histories and four weights, signed numbers of 32 bits. Assumes nothing.
 use Rattle.std.specs.Prelude.{ℕ, ◌+◌, ◌*◌, List, ◌++◌, ℤ}
 use Rattle.std.specs.Int.{w32}
-use Rattle.std.proofs.Common.{to_z}
+use mir.Val.{to_z}
 use Rattle.wrap.specs.Wrap.{low32}
 use Rattle.word.specs.Bytes.{be32, bytes_of}
 use Rattle.word.specs.Table.{table}

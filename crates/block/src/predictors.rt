@@ -1,7 +1,7 @@
 // Predictors in a block: for each channel four histories and four weights, each of 32 bits.
 ghost use Rattle.std.specs.Prelude.{◌≡◌, cond, ◌+◌, ◌*◌, ◌≤◌, length};
 ghost use Rattle.std.specs.Int.{w32};
-ghost use Rattle.std.proofs.Common.{to_z};
+ghost use mir.Val.{to_z};
 ghost use Rattle.word.specs.Bytes.{be32};
 ghost use Rattle.word.specs.Table.{table};
 ghost use Rattle.format.specs.Format.{max_channels};

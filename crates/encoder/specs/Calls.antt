@@ -1,6 +1,6 @@
 -- What each encoding call answers, leaves in the lent output, and hands back. Assumes nothing.
 use Rattle.std.specs.Prelude.{ℕ, ◌≡◌, List, ℤ, length}
-use Rattle.std.proofs.Math.Option.{Option, none, some}
+use mathlib.Core.Option.{Option, none, some}
 use Rattle.refusal.specs.Rules.{good, after, first_of}
 use Rattle.refusal.specs.Lent.{laid_over}
 use Rattle.format.specs.Format.{frame_length}

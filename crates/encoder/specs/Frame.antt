@@ -1,6 +1,6 @@
 -- A frame: its bytes, the state after it, its refusals, and the writer's reconstruction of it. Assumes nothing.
 use Rattle.std.specs.Prelude.{ℕ, zero, suc, ◌*◌, ◌/◌, ◌%◌, not, cond, List, [], ◌∷◌, ◌++◌, eqb, ltb, ℤ, length}
-use Rattle.std.proofs.Math.Option.{Option, none, some}
+use mathlib.Core.Option.{Option, none, some}
 use Rattle.word.specs.Bytes.{bytes_of}
 use Rattle.refusal.specs.Rules.{Rule, ◌gives◌}
 use Rattle.word.specs.Table.{table}

@@ -1,6 +1,6 @@
 // A frame: its refusals, then its bytes.
 ghost use Rattle.std.specs.Prelude.{◌≡◌, ◌+◌, ◌≤◌, length};
-ghost use Rattle.std.proofs.Math.Option.{none};
+ghost use mathlib.Core.Option.{none};
 ghost use Rattle.refusal.specs.Rules.{good, first_of};
 ghost use Rattle.format.specs.Format.{frame_length};
 ghost use Rattle.refusal.specs.Refusals.{told_checked};

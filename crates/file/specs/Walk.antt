@@ -1,7 +1,7 @@
 -- A walk over the frames of a list, by a reader's rules. Assumes nothing.
 use Rattle.std.specs.Prelude.{ℕ, zero, suc, ◌+◌, Bool, true, false, ltb, ℤ, length, take, drop}
 use mathlib.Core.List.{List, [], ◌∷◌, flat_map}
-use Rattle.std.proofs.Math.Option.{Option}
+use mathlib.Core.Option.{Option}
 use Rattle.refusal.specs.Rules.{Answer, good, Rule, ◌gives◌, first_of, unless, after, ◌then◌}
 use Rattle.format.specs.Header.{header_at}
 use Rattle.format.specs.Part.{length_of}

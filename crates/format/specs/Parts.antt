@@ -1,8 +1,8 @@
 -- What the parts of the code ask and answer. Assumes nothing.
 use Rattle.std.specs.Prelude.{ℕ, ◌+◌, ◌-◌, ◌*◌, ◌^◌, List, ℤ}
-use Rattle.std.proofs.Math.Option.{Option, none, some}
+use mathlib.Core.Option.{Option, none, some}
 use Rattle.std.specs.Int.{w16}
-use Rattle.std.proofs.Common.{to_z}
+use mir.Val.{to_z}
 use Rattle.word.specs.Table.{table}
 use Rattle.word.specs.Parts.{put}
 use Rattle.word.specs.Word.{field}

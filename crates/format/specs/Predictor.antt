@@ -1,7 +1,7 @@
 -- A channel's predictor state in a frame: four history and four weight numbers, signed 16-bit. Assumes nothing.
 use Rattle.std.specs.Prelude.{ℕ, ◌+◌, ◌*◌, ◌^◌, List, [], ℤ, get_or}
 use Rattle.std.specs.Int.{w16}
-use Rattle.std.proofs.Common.{to_z}
+use mir.Val.{to_z}
 use Rattle.word.specs.Table.{table}
 use Rattle.word.specs.Bytes.{be16}
 use Rattle.wrap.specs.Wrap.{low16}

@@ -1,6 +1,6 @@
 -- The state that a call hands back: the one it was given on a refusal, else one with the view that the call defines. Assumes nothing.
 use Rattle.std.specs.Prelude.{ℕ, ◌≡◌}
-use Rattle.std.proofs.Math.Option.{Option, none, some}
+use mathlib.Core.Option.{Option, none, some}
 use Rattle.state.specs.View.{View, view}
 use Rattle.state.specs.declared.QoaDecoder.{QoaDecoder}
 

@@ -1,6 +1,6 @@
 -- A whole file in one shot: a file header, then frames of 5120 samples per channel, the last one shorter. Assumes nothing.
 use Rattle.std.specs.Prelude.{ℕ, zero, suc, ◌+◌, ◌*◌, ◌-◌, ◌/◌, not, List, [], ◌∷◌, ◌++◌, eqb, ltb, ℤ, length, take, drop}
-use Rattle.std.proofs.Math.Option.{Option, none, some}
+use mathlib.Core.Option.{Option, none, some}
 use Rattle.refusal.specs.Rules.{Rule, ◌gives◌}
 use Rattle.format.specs.Format.{frame_len, max_channels, slices_of, state_end}
 use Rattle.encoder.specs.Encoder.{EncoderView, good_encoder}

@@ -2,7 +2,7 @@
 
 // A whole file in one shot: the file header, then frames of 5120 samples per channel.
 ghost use Rattle.std.specs.Prelude.{◌≡◌, ◌+◌, ◌-◌, ◌*◌, ◌≤◌, ◌<◌, ◌^◌, min, length};
-ghost use Rattle.std.proofs.Math.Option.{none};
+ghost use mathlib.Core.Option.{none};
 ghost use Rattle.refusal.specs.Rules.{good, first_of};
 ghost use Rattle.format.specs.Format.{frame_len, frame_length, max_channels};
 ghost use Rattle.refusal.specs.Refusals.{told_checked};

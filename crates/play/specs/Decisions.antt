@@ -1,6 +1,6 @@
 -- The program's decisions: what comes next, by the run so far and the bytes that came. Assumes nothing.
 use Rattle.std.specs.Prelude.{ℕ, ◌+◌, ◌-◌, min, Bool, false, cond, List, eqb, ltb, length}
-use Rattle.std.proofs.Math.Option.{Option, none, some}
+use mathlib.Core.Option.{Option, none, some}
 use Rattle.refusal.specs.Rules.{first_of}
 use Rattle.refusal.specs.Refusals.{number_of}
 use Rattle.format.specs.Format.{most_bytes, state_end}

@@ -1,6 +1,6 @@
 -- The program: from the bytes of its input to the samples that it writes and what it says. Assumes nothing.
 use Rattle.std.specs.Prelude.{ℕ, zero, suc, Bool, true, false, cond, List, [], ◌++◌, ltb, ℤ, length, take, drop}
-use Rattle.std.proofs.Math.Option.{Option, none, some}
+use mathlib.Core.Option.{Option, none, some}
 use Rattle.refusal.specs.Rules.{first_of}
 use Rattle.format.specs.Format.{most_bytes}
 use Rattle.format.specs.FileHeader.{file_rules, is_fixed, total_of}

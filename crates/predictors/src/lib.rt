@@ -3,7 +3,7 @@
 // A channel's predictor state in a frame: four history and four weight numbers of 16 bits, each four in one word.
 ghost use Rattle.std.specs.Prelude.{◌≡◌, ◌+◌, ◌*◌, ◌<◌, ◌≤◌, length};
 ghost use Rattle.std.specs.Int.{w16};
-ghost use Rattle.std.proofs.Common.{to_z};
+ghost use mir.Val.{to_z};
 ghost use Rattle.word.specs.Word.{field};
 ghost use Rattle.word.specs.Parts.{written};
 ghost use Rattle.wrap.specs.Wrap.{low16};

@@ -1,6 +1,6 @@
 -- The calls on a decoder at a reader's place, by the definitions of the decoder's own calls. Assumes nothing.
 use Rattle.std.specs.Prelude.{ℕ, ◌≡◌, List, ℤ, length}
-use Rattle.std.proofs.Math.Option.{Option, none, some}
+use mathlib.Core.Option.{Option, none, some}
 use Rattle.refusal.specs.Rules.{good, after, first_of}
 use Rattle.refusal.specs.Lent.{laid_over}
 use Rattle.word.specs.Table.{table}

@@ -1,6 +1,6 @@
 -- The numbers of the refusals, and what the answers tell by them. Assumes nothing.
 use Rattle.std.specs.Prelude.{ℕ}
-use Rattle.std.proofs.Math.Option.{Option, none, some}
+use mathlib.Core.Option.{Option, none, some}
 use Rattle.refusal.specs.Rules.{Answer, good, refused}
 use Rattle.refusal.specs.declared.Refusal.{Refusal}
 use Rattle.refusal.specs.declared.Refusal.TheVariants.{NotQoaFile, NoSamples, InvalidFrameHeader, IncompatibleFrame, Truncated, TooManyChannels, OutputTooSmall, BadState, InputTooLong, InvalidChannels, InvalidSampleRate, InvalidSamples, WeightRange}

@@ -2,7 +2,7 @@
 -- Assumes nothing.
 use Rattle.std.specs.Prelude.{ℕ, zero, suc, ◌+◌, ◌*◌, ◌-◌, ◌^◌, Bool, true, false, cond, List, ℤ, leb, ltb, eqb, get_or}
 use Rattle.std.specs.Int.{w16}
-use Rattle.std.proofs.Common.{SFits}
+use mir.Val.{SFits}
 use Rattle.word.specs.Table.{table}
 use Rattle.lms.specs.Predictor.{at}
 use Rattle.lms.specs.declared.QoaLms.{QoaLms}

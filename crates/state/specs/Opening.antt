@@ -1,6 +1,6 @@
 -- Opening a decoder. Assumes nothing.
 use Rattle.std.specs.Prelude.{ℕ, ◌+◌, ◌*◌, false, cond, List, [], ◌∷◌, ◌++◌, ◌≡◌, ltb, pos, replicate}
-use Rattle.std.proofs.Math.Option.{Option, none, some}
+use mathlib.Core.Option.{Option, none, some}
 use Rattle.refusal.specs.Rules.{Rule, ◌gives◌}
 use Rattle.word.specs.Table.{table}
 use Rattle.lms.specs.Predictor.{zero_lms}

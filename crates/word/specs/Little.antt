@@ -1,7 +1,7 @@
 -- Numbers in bytes with the lowest byte first, and 16-bit samples as two such bytes each. Assumes nothing.
 use Rattle.std.specs.Prelude.{ℕ, zero, suc, ◌+◌, ◌*◌, ◌/◌, ◌%◌, List, [], ◌∷◌, ℤ, get_or}
 use Rattle.std.specs.Int.{w16}
-use Rattle.std.proofs.Common.{to_z}
+use mir.Val.{to_z}
 use Rattle.wrap.specs.Wrap.{low16}
 
 -- the number of the n bytes from the place p on
