@@ -43,11 +43,11 @@ def defined():
         for line in open(path, encoding="utf-8"):
             if line.strip() and not line.startswith((" ", "--")):
                 in_type = bool(re.match(r"(?:pub )?(?:record|data) ", line))
-            m = re.match(r" *(?:(?:abbrev|unfoldable|pub) )*(%s) :" % NAME.pattern, line)
-            if m:
-                names.add(m.group(1))
+            m = re.match(r" *(?:(?:abbrev|unfoldable|pub) )*(%s(?: %s)*) :" % (NAME.pattern, NAME.pattern), line)
+            if m and (in_type or " " not in m.group(1)):
+                names |= set(m.group(1).split())
                 if in_type:
-                    fields.add(m.group(1))
+                    fields |= set(m.group(1).split())
     return names, fields
 
 

@@ -33,7 +33,7 @@ use Rattle.state.proofs.OpenedStates.{read_good}
 use Rattle.into.specs.Into.{pending_to, groups_end, groups_lms, groups_samples, into_after, into_count, into_groups, into_rules, pending_from, taken_from}
 use Rattle.frames.specs.Frames as Frames
 use Rattle.frames.specs.Frames.{past_rest, enter_rules, entered, entered_or, entry_rules, kind_of, next_rules}
-use Rattle.decoder.specs.Items.{Turn, first-header, from-group, from_next, from-pending, item_after, item_rules, settled, turn_after, turn_of, turn_rules}
+use Rattle.decoder.specs.Items.{Turn, first_header, from_group, from_next, from_pending, item_after, item_rules, settled, turn_after, turn_of, turn_rules}
 use Rattle.into.proofs.Counts.{groups_within_frame, slices_cover}
 use Rattle.format.proofs.Checking.{passed}
 use Rattle.into.proofs.Ranges.{range_le, range_order}
@@ -145,7 +145,7 @@ module _ (bs : List ℕ) (bytes : AreBytes bs) (v : View) (g : Good v (length bs
       (λ there. let test = le-ltb (left_at bs v.at) 8 (omega arith) in rw test (entered_good (omega arith) (rw test at e)))
 
 -- the group's turn has a group to come
-one_slice : (v : View) → turn_of v ≡ from-group → 1 ≤ slices_of v.remaining
+one_slice : (v : View) → turn_of v ≡ from_group → 1 ≤ slices_of v.remaining
 unfolding turn_of slices_of
 one_slice v e =
     dite (dec_lt 0 v.remaining)
@@ -154,7 +154,7 @@ one_slice v e =
     let none_left = le-ltb 0 v.remaining (omega arith) in
     absurd (never_group (ltb 0 (waiting v)) v.given (rw none_left at e)))
   where
-    never_group : (a b : Bool) → cond a from-pending (cond (not b) first-header (cond false from-group from_next)) ≡ from-group → ⊥
+    never_group : (a b : Bool) → cond a from_pending (cond (not b) first_header (cond false from_group from_next)) ≡ from_group → ⊥
     never_group true b e = let z : ◌≡◌ {A = ℕ} 0 1 = cc in omega arith
     never_group false true e = let z : ◌≡◌ {A = ℕ} 0 1 = cc in omega arith
     never_group false false e = let z : ◌≡◌ {A = ℕ} 0 1 = cc in omega arith
@@ -186,7 +186,7 @@ module _ (bs : List ℕ) (bytes : AreBytes bs) (v : View) (small : v.frame.sampl
 
   turn_good : (t : Turn) → turn_of v ≡ t → Good v (length bs) → Quiet (turn_rules t bs v) → Good (turn_after t bs v) (length bs)
   unfolding enter_rules
-  turn_good from-pending e g q = flagged_good v.given (taken_from bs v 0 1) (taken_good bs v g (few bs v small g) 0 1 (omega arith) (omega (arith, g.place)))
+  turn_good from_pending e g q = flagged_good v.given (taken_from bs v 0 1) (taken_good bs v g (few bs v small g) 0 1 (omega arith) (omega (arith, g.place)))
     where
       flagged_good : (b : Bool) (w : View) → Good w (length bs) → Good (flagged b w) (length bs)
       flagged_good b w g =
@@ -201,8 +201,8 @@ module _ (bs : List ℕ) (bytes : AreBytes bs) (v : View) (small : v.frame.sampl
             histories = g.histories;
             weights = g.weights;
           }
-  turn_good first-header e g q = settled_good g
-  turn_good from-group e g q = taken_good bs v g (few bs v small g) 1 1 (one_slice v e) (omega (arith, tests, q.0))
+  turn_good first_header e g q = settled_good g
+  turn_good from_group e g q = taken_good bs v g (few bs v small g) 1 1 (one_slice v e) (omega (arith, tests, q.0))
   turn_good from_next e g q = entered_or_good bs bytes (settled v) (settled_good g) (none_fires (enter_rules bs v) q)
 
   pub item_after_good : first_of (item_rules bs v) ≡ none → good_state (item_after bs v) (length bs) ≡ true

@@ -22,7 +22,7 @@ use Rattle.state.specs.States.{good_state}
 use Rattle.state.specs.declared.QoaDecoder.{QoaDecoder}
 use Rattle.into.specs.Into.{coming_at, groups_for, taken_from}
 use Rattle.frames.specs.Frames.{Found, a_frame, enter_rules, entered_or, found_at, no_frame, told_frame}
-use Rattle.decoder.specs.Items.{Item, ItemDone, Turn, first-header, from-group, from_next, from-pending, item_after, item_in, item_of, item_rules, settled, told_item, turn_of, turn_rules}
+use Rattle.decoder.specs.Items.{Item, ItemDone, Turn, first_header, from_group, from_next, from_pending, item_after, item_in, item_of, item_rules, settled, told_item, turn_of, turn_rules}
 use Rattle.frames.specs.declared.NextFrame.{NextFrame}
 use Rattle.decoder.specs.declared.NextItem.{NextItem}
 use Rattle.frames.specs.declared.FrameAnswer as F
@@ -42,7 +42,7 @@ view_settled d = refl
 -- ---- whose turn it is
 
 module _ (d : QoaDecoder) where
-  pub turn_pending : d.next < d.end → turn_of (view d) ≡ from-pending
+  pub turn_pending : d.next < d.end → turn_of (view d) ≡ from_pending
   unfolding turn_of view
   turn_pending h = rw (lt-ltb 0 (d.end - d.next) (omega arith))
 
@@ -50,11 +50,11 @@ module _ (d : QoaDecoder) where
     no_sample : ltb 0 (d.end - d.next) ≡ false
     no_sample = le-ltb 0 (d.end - d.next) (omega arith)
 
-    pub turn_header : d.given ≡ false → turn_of (view d) ≡ first-header
+    pub turn_header : d.given ≡ false → turn_of (view d) ≡ first_header
     unfolding turn_of view
     turn_header e = rw (no_sample, e)
 
-    pub turn_group : d.given ≡ true → 0 < d.remaining → turn_of (view d) ≡ from-group
+    pub turn_group : d.given ≡ true → 0 < d.remaining → turn_of (view d) ≡ from_group
     unfolding turn_of view
     turn_group e h = rw (no_sample, e, lt-ltb 0 d.remaining h)
 
@@ -66,29 +66,29 @@ module _ (d : QoaDecoder) where
 
 module _ (bs : List ℕ) (d : QoaDecoder) (state : QoaDecoder) where
   pub pending_turn : (x : ℤ) → x ≡ get_or d.pending d.next (pos 0) → d.next < d.end → view state ≡ flagged d.given (taken_from bs (view d) 0 1)
-      → TurnDone from-pending bs d (record { item = Q.TheVariants.Sample x; state = state })
+      → TurnDone from_pending bs d (record { item = Q.TheVariants.Sample x; state = state })
   unfolding first_of view
   pending_turn x e h state-is =
       let first : coming_at bs (view d) 0 ≡ x = coming_pending bs d 0 (omega arith) ∙ rw add-zero (sym e) in
       record { told = rw first; left = state-is }
 
-  pub header_turn : view state ≡ settled (view d) → TurnDone first-header bs d (record { item = Q.TheVariants.Header d.frame; state = state })
+  pub header_turn : view state ≡ settled (view d) → TurnDone first_header bs d (record { item = Q.TheVariants.Header d.frame; state = state })
   unfolding first_of view
   header_turn state-is = record { told = refl; left = state-is }
 
-  pub group_cut : (r : NextItem) → length bs < d.at + 8 * d.frame.channels → r.item ≡ Q.TheVariants.Refused Truncated → r.state ≡ d → TurnDone from-group bs d r
+  pub group_cut : (r : NextItem) → length bs < d.at + 8 * d.frame.channels → r.item ≡ Q.TheVariants.Refused Truncated → r.state ≡ d → TurnDone from_group bs d r
   unfolding view
   group_cut r cut item state-is =
-      let f : first_of (turn_rules from-group bs (view d)) ≡ some 5 = fires 0 (turn_rules from-group bs (view d)) 5 (omega (arith, tests), refl) in
+      let f : first_of (turn_rules from_group bs (view d)) ≡ some 5 = fires 0 (turn_rules from_group bs (view d)) 5 (omega (arith, tests), refl) in
       record { told = rw (f, item); left = rw f state-is }
 
   -- what a call for one sample leaves
   pub group_turn : (x : ℤ) (out out' : List ℤ) → x ≡ get_or out' 0 (pos 0) → d.end ≤ d.next → 0 < d.frame.channels → d.at + 8 * d.frame.channels ≤ length bs → 0 < length out
       → out' ≡ written (coming_at bs (view d)) out 0 1 (waiting (view d) + 1) → view state ≡ taken_from bs (view d) (groups_for d.frame.channels 1) (waiting (view d) + 1)
-      → TurnDone from-group bs d (record { item = Q.TheVariants.Sample x; state = state })
+      → TurnDone from_group bs d (record { item = Q.TheVariants.Sample x; state = state })
   unfolding view
   group_turn x out out' e nothing channels whole room out-is state-is =
-      let f : first_of (turn_rules from-group bs (view d)) ≡ none = none_fires (turn_rules from-group bs (view d)) (omega (arith, tests), tt) in
+      let f : first_of (turn_rules from_group bs (view d)) ≡ none = none_fires (turn_rules from_group bs (view d)) (omega (arith, tests), tt) in
       let one : waiting (view d) + 1 ≡ 1 = omega arith in
       let stored : out' ≡ written (coming_at bs (view d)) out 0 1 1 = out-is ∙ rw one in
       let first : x ≡ coming_at bs (view d) 0 =

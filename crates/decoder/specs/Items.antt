@@ -21,10 +21,10 @@ pub data Item : Type 0 where
 
 -- which of the four it is
 pub data Turn : Type 0 where
-  from-pending first-header from-group from_next : Turn
+  from_pending first_header from_group from_next : Turn
 
 unfoldable pub turn_of : View → Turn
-turn_of v = cond (ltb 0 (waiting v)) from-pending (cond (not v.given) first-header (cond (ltb 0 v.remaining) from-group from_next))
+turn_of v = cond (ltb 0 (waiting v)) from_pending (cond (not v.given) first_header (cond (ltb 0 v.remaining) from_group from_next))
 
 -- a state with no sample pending
 abbrev pub settled : View → View
@@ -32,9 +32,9 @@ settled v = moved_to v v.frame v.at v.remaining none_pending v.lms
 
 -- 5 where the group that the step needs is cut; the next frame's refusals
 abbrev pub turn_rules : Turn → List ℕ → View → List Rule
-turn_rules from-pending bs v = []
-turn_rules first-header bs v = []
-turn_rules from-group bs v = (ltb (length bs) (groups_end v 1) gives 5) ∷ []
+turn_rules from_pending bs v = []
+turn_rules first_header bs v = []
+turn_rules from_group bs v = (ltb (length bs) (groups_end v 1) gives 5) ∷ []
 turn_rules from_next bs v = enter_rules bs v
 
 abbrev pub item_in : Found → Item
@@ -42,15 +42,15 @@ item_in (a_frame f) = a_header f
 item_in no_frame = no_item
 
 abbrev pub turn_item : Turn → List ℕ → View → Item
-turn_item from-pending bs v = a_sample (coming_at bs v 0)
-turn_item first-header bs v = a_header v.frame
-turn_item from-group bs v = a_sample (coming_at bs v 0)
+turn_item from_pending bs v = a_sample (coming_at bs v 0)
+turn_item first_header bs v = a_header v.frame
+turn_item from_group bs v = a_sample (coming_at bs v 0)
 turn_item from_next bs v = item_in (found_at bs v)
 
 abbrev pub turn_after : Turn → List ℕ → View → View
-turn_after from-pending bs v = flagged v.given (taken_from bs v 0 1)
-turn_after first-header bs v = settled v
-turn_after from-group bs v = taken_from bs v 1 1
+turn_after from_pending bs v = flagged v.given (taken_from bs v 0 1)
+turn_after first_header bs v = settled v
+turn_after from_group bs v = taken_from bs v 1 1
 turn_after from_next bs v = entered_or bs (settled v)
 
 -- ---- the call

@@ -4,7 +4,7 @@ ghost use Rattle.format.specs.Format.{pending_len};
 ghost use Rattle.state.specs.View.{view};
 ghost use Rattle.state.specs.States.{good_state};
 ghost use Rattle.decoder.specs.declared.QoaItem.TheVariants.{Refused};
-ghost use Rattle.decoder.specs.Items.{ItemDone, first-header, from-group, from_next, from-pending, settled};
+ghost use Rattle.decoder.specs.Items.{ItemDone, first_header, from_group, from_next, from_pending, settled};
 ghost use Rattle.decoder.specs.Parts.{TurnDone};
 
 use crate::{NextItem, QoaItem};
@@ -17,7 +17,7 @@ use state::QoaDecoder;
 // The first of the pending samples.
 fn pending_item(d: QoaDecoder) -> NextItem
     requires { (d.next < d.end) × (d.end ≤ pending_len) }
-    ensures { (bs : List ℕ) → TurnDone from-pending bs d result }
+    ensures { (bs : List ℕ) → TurnDone from_pending bs d result }
 {
     let next = d.next;
     let given = d.given;
@@ -41,7 +41,7 @@ fn settle(d: QoaDecoder) -> QoaDecoder
 
 // The current frame's header, which was not given yet: all zero after a stream was opened.
 fn header_item(d: QoaDecoder) -> NextItem
-    ensures { (bs : List ℕ) → TurnDone first-header bs d result }
+    ensures { (bs : List ℕ) → TurnDone first_header bs d result }
 {
     let frame = d.frame;
     NextItem {
@@ -63,7 +63,7 @@ fn refused_item(d: QoaDecoder, refusal: Refusal) -> NextItem
 // The first sample of the next group.
 fn group_item(d: QoaDecoder, bytes: &[u8]) -> NextItem
     requires { (good_state (view d) (length bytes.now) ≡ true) × (d.end ≤ d.next) × (0 < d.remaining) }
-    ensures { TurnDone from-group bytes.now d result }
+    ensures { TurnDone from_group bytes.now d result }
 {
     let frame = d.frame;
     let channels = frame.channels as usize;

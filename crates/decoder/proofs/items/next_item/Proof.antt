@@ -6,7 +6,7 @@ use borrow.Author.Tests.{not-false, not-true}
 use lib.ListN.{length}
 use Rattle.state.specs.View.{view}
 use Rattle.state.specs.States.{good_state}
-use Rattle.decoder.specs.Items.{first-header, from-group, from_next, from-pending}
+use Rattle.decoder.specs.Items.{first_header, from_group, from_next, from_pending}
 use Rattle.decoder.proofs.ItemLaws.{item_bad, item_turn, turn_group, turn_header, turn_next, turn_pending}
 use Rattle.into.proofs.Sound.{Sound, sound}
 use borrow.Author.Rules.{rules}
@@ -39,7 +39,7 @@ returns-2 : tie.Need-returns-2
 returns-2 c =
     let first = c.before.before in
     let args = first.before.before.before.args in
-    item_turn args.bytes.now args.d c.pending-item.result from-pending (is-good first) (turn_pending args.d c.before.if2.true) (c.pending-item.ensures args.bytes.now)
+    item_turn args.bytes.now args.d c.pending-item.result from_pending (is-good first) (turn_pending args.d c.before.if2.true) (c.pending-item.ensures args.bytes.now)
 
 header-item-requires : tie.Need-header-item-requires
 header-item-requires c κs = search rules
@@ -48,7 +48,7 @@ returns-3 : tie.Need-returns-3
 returns-3 c =
     let first = c.before.before.before in
     let args = first.before.before.before.args in
-    item_turn args.bytes.now args.d c.header-item.result first-header (is-good first) (turn_header args.d c.before.before.if2.false (not-true _ c.before.if3.true)) (c.header-item.ensures args.bytes.now)
+    item_turn args.bytes.now args.d c.header-item.result first_header (is-good first) (turn_header args.d c.before.before.if2.false (not-true _ c.before.if3.true)) (c.header-item.ensures args.bytes.now)
 
 group-item-requires : tie.Need-group-item-requires
 group-item-requires c κs = (is-good c.before.before.before, c.before.before.if2.false, c.if4.true)
@@ -58,7 +58,7 @@ returns-4 c =
     let given = c.before.before in
     let first = given.before.before in
     let args = first.before.before.before.args in
-    item_turn args.bytes.now args.d c.group-item.result from-group (is-good first) (turn_group args.d given.before.if2.false (not-false _ given.if3.false) c.before.if4.true) c.group-item.ensures
+    item_turn args.bytes.now args.d c.group-item.result from_group (is-good first) (turn_group args.d given.before.if2.false (not-false _ given.if3.false) c.before.if4.true) c.group-item.ensures
 
 frame-item-requires : tie.Need-frame-item-requires
 frame-item-requires c κs = (facts c.before.before.before).place
