@@ -9,6 +9,7 @@ use lines::parts::Part;
 use lines::put::put_text;
 use lines::{hex, lists, parts};
 use qoa::linked;
+use stdio::Streams;
 
 // The kinds of lists, in the order in which they stand. Numbers and bytes are read; the others are given back.
 const NUMBERS: u8 = 1;
@@ -372,13 +373,8 @@ fn make_call(ask: &mut [u8], p: Places) -> Told
     perform(ask, p, &mut state, &mut out, &mut samples, &mut facts)
 }
 
-// Writes to standard output. Answers whether all was taken.
-fn write_out(bytes: &[u8]) -> bool {
-    stdio::write_out(stdio::standard(), bytes)
-}
-
 // Writes the answer's bits and the lists from a place on, as a line of hex.
-fn put_answer(ask: &[u8], from: usize, bits: u64, text: &mut [u8]) -> bool
+fn put_answer(streams: Streams, ask: &[u8], from: usize, bits: u64, text: &mut [u8]) -> bool
     requires { from ≤ length ask.now }
 {
     let mut head = [0u8; 8];
@@ -387,53 +383,53 @@ fn put_answer(ask: &[u8], from: usize, bits: u64, text: &mut [u8]) -> bool
     let end = hex::put_hex(text, lists, &ask[from..]);
     let n = put_text(text, end, b"\n");
     let all = &text[..];
-    write_out(&all[0..n])
+    stdio::write_out(streams, &all[0..n])
 }
 
-fn write_answer(ask: &[u8], from: usize, bits: u64) -> bool
+fn write_answer(streams: Streams, ask: &[u8], from: usize, bits: u64) -> bool
     requires { from ≤ length ask.now }
 {
     let mut text = [0u8; 131200];
-    put_answer(ask, from, bits, &mut text)
+    put_answer(streams, ask, from, bits, &mut text)
 }
 
 // What is wrong with a list, by its kind.
-fn write_fault(kind: u8) -> bool {
+fn write_fault(streams: Streams, kind: u8) -> bool {
     if kind < NUMBERS {
-        return write_out(b"no such kind of list\n");
+        return stdio::write_out(streams, b"no such kind of list\n");
     }
     if FACTS < kind {
-        return write_out(b"no such kind of list\n");
+        return stdio::write_out(streams, b"no such kind of list\n");
     }
-    write_out(b"a list is cut, too long, or out of order\n")
+    stdio::write_out(streams, b"a list is cut, too long, or out of order\n")
 }
 
 // A request. Answers, as those below do, whether the answer was written.
-fn answer(ask: &mut [u8]) -> bool
+fn answer(streams: Streams, ask: &mut [u8]) -> bool
     requires { 1 ≤ length ask.old }
 {
     let p = take_apart(ask);
     let end = p.facts.next;
     if end < ask.len() {
-        return write_fault(ask[end]);
+        return write_fault(streams, ask[end]);
     }
     match make_call(ask, p) {
-        Told::Unknown => write_out(b"no such call\n"),
-        Told::Bits(bits) => write_answer(ask, p.bytes.next, bits),
+        Told::Unknown => stdio::write_out(streams, b"no such call\n"),
+        Told::Bits(bits) => write_answer(streams, ask, p.bytes.next, bits),
     }
 }
 
 // The hex of a request, read into a place for it.
-fn answer_hex(line: &[u8], ask: &mut [u8]) -> bool {
+fn answer_hex(streams: Streams, line: &[u8], ask: &mut [u8]) -> bool {
     let n = line.len() / 2;
     if n == 0 {
-        return write_out(b"not hex\n");
+        return stdio::write_out(streams, b"not hex\n");
     }
     if ask.len() < n {
-        return write_out(b"line too long\n");
+        return stdio::write_out(streams, b"line too long\n");
     }
     hex::read_hex(line, &mut ask[0..n]);
-    answer(&mut ask[0..n])
+    answer(streams, &mut ask[0..n])
 }
 
 // Whether a line is written out as it is.
@@ -445,26 +441,26 @@ fn is_remark(line: &[u8]) -> bool {
 }
 
 // A line: a remark, or the hex of a request.
-fn reply(line: &[u8]) -> bool {
+fn reply(streams: Streams, line: &[u8]) -> bool {
     if is_remark(line) {
-        if !write_out(line) {
+        if !stdio::write_out(streams, line) {
             return false;
         }
-        return write_out(b"\n");
+        return stdio::write_out(streams, b"\n");
     }
     if !hex::is_hex(line) {
-        return write_out(b"not hex\n");
+        return stdio::write_out(streams, b"not hex\n");
     }
     let mut ask = [0u8; 65536];
-    answer_hex(line, &mut ask)
+    answer_hex(streams, line, &mut ask)
 }
 
 // Ends a line, of which n bytes stand in its place.
-fn end_line(line: &[u8], n: usize) -> bool {
+fn end_line(streams: Streams, line: &[u8], n: usize) -> bool {
     if line.len() <= n {
-        return write_out(b"line too long\n");
+        return stdio::write_out(streams, b"line too long\n");
     }
-    reply(&line[0..n])
+    reply(streams, &line[0..n])
 }
 
 // What is held between two reads: how much of a line, and whether to go on.
@@ -475,7 +471,7 @@ struct Held {
 }
 
 // One piece of a line, and where that ends it the answer.
-fn take_piece(piece: &[u8], ended: bool, line: &mut [u8], held: usize) -> Held {
+fn take_piece(streams: Streams, piece: &[u8], ended: bool, line: &mut [u8], held: usize) -> Held {
     let n = put_text(line, held, piece);
     if !ended {
         return Held {
@@ -483,12 +479,12 @@ fn take_piece(piece: &[u8], ended: bool, line: &mut [u8], held: usize) -> Held {
             more: true,
         };
     }
-    let more = end_line(line, n);
+    let more = end_line(streams, line, n);
     Held { line: 0, more }
 }
 
 // The lines of what was read. The last of them may go on in the next read.
-fn split(chunk: &[u8], line: &mut [u8], from: usize) -> Held {
+fn split(streams: Streams, chunk: &[u8], line: &mut [u8], from: usize) -> Held {
     let mut held = Held {
         line: from,
         more: true,
@@ -496,7 +492,7 @@ fn split(chunk: &[u8], line: &mut [u8], from: usize) -> Held {
     let mut at = 0usize;
     while at < chunk.len() {
         let end = lines::search::find(chunk, at, b'\n');
-        let next = take_piece(&chunk[at..end], end < chunk.len(), line, held.line);
+        let next = take_piece(streams, &chunk[at..end], end < chunk.len(), line, held.line);
         if !next.more {
             return next;
         }
@@ -514,42 +510,40 @@ fn stopped() -> Held {
 }
 
 // One read, and the lines that it ends. At the end of the input a line may be left that no newline ends.
-fn turn(chunk: &mut [u8], line: &mut [u8], held: usize) -> Held {
-    let got = stdio::read_chunk(stdio::standard(), chunk);
+fn turn(streams: Streams, chunk: &mut [u8], line: &mut [u8], held: usize) -> Held {
+    let got = stdio::read_chunk(streams, chunk);
     if got.failed {
         return stopped();
     }
     let n = got.count;
     if n != 0 {
-        return split(&chunk[0..n], line, held);
+        return split(streams, &chunk[0..n], line, held);
     }
     if held != 0 {
-        end_line(line, held);
+        end_line(streams, line, held);
     }
     stopped()
 }
 
-// A proved loop has to end, so the turns are counted down from a number that no run uses up.
-fn run(chunk: &mut [u8], line: &mut [u8]) {
+// A proved loop has to end, so the turns are counted up to a number that no run reaches.
+fn run(streams: Streams, chunk: &mut [u8], line: &mut [u8]) {
     let mut held = 0usize;
-    let mut turns = u64::MAX;
-    while 0 < turns {
-        let next = turn(chunk, line, held);
+    for _ in 0..u64::MAX {
+        let next = turn(streams, chunk, line, held);
         if !next.more {
             return;
         }
         held = next.line;
-        turns -= 1;
     }
 }
 
 // A line is at most one byte shorter than its place: a full place says that a line is too long.
-fn run_on(chunk: &mut [u8]) {
+fn run_on(streams: Streams, chunk: &mut [u8]) {
     let mut line = [0u8; 131073];
-    run(chunk, &mut line);
+    run(streams, chunk, &mut line);
 }
 
-fn main() {
+fn main(rt: HostRuntime) {
     let mut chunk = [0u8; 65536];
-    run_on(&mut chunk);
+    run_on(stdio::standard(rt), &mut chunk);
 }
