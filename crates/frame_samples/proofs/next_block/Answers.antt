@@ -27,8 +27,8 @@ few_samples f bytes =
     let small = header_small f 0 bytes in
     rw (length_samples f) (mul-le-mul {n₂ = 65535} {m₂ = 255} (omega (arith, small.samples_small)) (omega (arith, small.channels_small)))
 
-sixteen-bits : (c : Start) → c.args.p.decoder.frame.samples ≤ 65535
-sixteen-bits c = search rules
+sixteen_bits : (c : Start) → c.args.p.decoder.frame.samples ≤ 65535
+sixteen_bits c = search rules
 
 -- the count
 count_is : (c : After-lesser-count) → c.lesser-count.result ≡ min (length c.args.block.now) (total (view c.args.p.decoder))
@@ -44,4 +44,4 @@ pub returns : goal.returns
 returns c =
     let at = goal.at.returns c in
     block_done c.args.frame.now c.args.p c.args.block.now c.args.bytes.now c.decode_into-made.result _ _ c.lesser-count.result
-    c.requires.after (sixteen-bits at.Start) (count_is at.After-lesser-count) c.decode_into-made.ensures c.put_samples.ensures
+    c.requires.after (sixteen_bits at.Start) (count_is at.After-lesser-count) c.decode_into-made.ensures c.put_samples.ensures

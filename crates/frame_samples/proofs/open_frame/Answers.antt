@@ -13,9 +13,9 @@ use Rattle.frame_samples.proofs.open_frame.Goals as goal
 pub enter_frame-entered-requires : goal.enter_frame-entered-requires
 enter_frame-entered-requires c = omega (arith, long_enough c.args.frame.now c.requires)
 
-same-mode : (d : QoaDecoder) → d ≡ zero_state → start.mode ≡ d.mode
+same_mode : (d : QoaDecoder) → d ≡ zero_state → start.mode ≡ d.mode
 unfolding view
-same-mode d e = ap (λ (z : QoaDecoder). z.mode) (sym e)
+same_mode d e = ap (λ (z : QoaDecoder). z.mode) (sym e)
 
 at_first : start.at ≡ 0
 unfolding view zero_state
@@ -25,6 +25,6 @@ pub returns : goal.returns
 returns c =
     let f = c.args.frame.now in
     let bytes : AreBytes f = λ i. search rules in
-    let done = c.enter_frame-entered.ensures start (same-mode _ c.zero_state.ensures) at_first in
-    let view-is : view c.enter_frame-entered.result.state ≡ entered f start = (rw (enters f c.requires) at done.left) ∙ entered_there f c.requires in
-    (rw view-is (stands_first f c.requires bytes), refl)
+    let done = c.enter_frame-entered.ensures start (same_mode _ c.zero_state.ensures) at_first in
+    let view_is : view c.enter_frame-entered.result.state ≡ entered f start = (rw (enters f c.requires) at done.left) ∙ entered_there f c.requires in
+    (rw view_is (stands_first f c.requires bytes), refl)

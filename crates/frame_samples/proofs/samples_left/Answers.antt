@@ -11,14 +11,14 @@ use Rattle.state.specs.View.{view}
 use Rattle.frame_samples.proofs.samples_left.Goals as goal
 
 -- a product of numbers of 16 and of 8 bits fits, with a few more too
-product-fits : {a b : ℕ} → a ≤ 65535 → b ≤ 255 → Fits w64 (a * b)
-product-fits left right = omega (arith, mul-le-mul {n₂ = 65535} {m₂ = 255} left right)
+product_fits : {a b : ℕ} → a ≤ 65535 → b ≤ 255 → Fits w64 (a * b)
+product_fits left right = omega (arith, mul-le-mul {n₂ = 65535} {m₂ = 255} left right)
 
 sum_fits : {u a b : ℕ} → u ≤ pending_len → a ≤ 65535 → b ≤ 255 → Fits w64 (u + a * b)
 sum_fits few left right = omega (arith, mul-le-mul {n₂ = 65535} {m₂ = 255} left right)
 
 pub overflow_mul-result : goal.overflow_mul-result
-overflow_mul-result c = product-fits (search rules) (search rules)
+overflow_mul-result c = product_fits (search rules) (search rules)
 
 pub overflow_add-result : goal.overflow_add-result
 overflow_add-result c = sum_fits (omega arith) (search rules) (search rules)
