@@ -136,13 +136,7 @@ pub fn qoa_facts_seconds(bytes: &[u8]) -> f64
 }
 
 // Samples into a whole file in lent bytes: how many bytes.
-pub fn qoa_encode_all(
-    channels: u8,
-    rate: u32,
-    total: u32,
-    samples: &[i16],
-    out: &mut [u8],
-) -> i64
+pub fn qoa_encode_all(channels: u8, rate: u32, total: u32, samples: &[i16], out: &mut [u8]) -> i64
     ensures answer { result ≡ coded_encode (shot_told (all_rules channels rate total samples.now (length out.old)) (new_view channels rate total) samples.now) }
     ensures bytes { out.new ≡ shot_memory (all_rules channels rate total samples.now (length out.old)) (new_view channels rate total) samples.now out.old }
 {
