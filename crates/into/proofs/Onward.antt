@@ -1,11 +1,11 @@
 -- The state after some samples goes on where they ended: the samples still to come are the later ones, and all that remains of the frame ends where it did. Assumes nothing.
 use mathlib.Core.Path.{◌≡◌, refl, ap, ap₂, sym, ◌∙◌}
-use mathlib.Core.Bool.{true, false}
+use mathlib.Core.Bool.{false}
 use mathlib.Core.List.{List}
 use mathlib.Core.Logic.{dite}
-use Prim.Native.Nat.{ℕ, zero, suc, ◌+◌, ◌-◌, ◌*◌, ◌/◌, ◌%◌, ◌≤◌, ◌<◌, min}
+use Prim.Native.Nat.{ℕ, zero, suc, ◌+◌, ◌-◌, ◌*◌, ◌/◌, ◌%◌, ◌≤◌, ◌<◌}
 use native.Mathlib.Decide.{dec_lt}
-use native.Mathlib.Nat.{min-eq_left, min-eq_right, mod-lt, mul-add-div_right, mul-add-mod_self_right, mul-zero}
+use native.Mathlib.Nat.{mod-lt, mul-add-div_right, mul-add-mod_self_right}
 use native.Mathlib.Omega.{arith}
 use borrow.Author.Tests.{le-ltb, lt-ltb, ne_eqb}
 use lib.Dec.{eqb}
@@ -20,7 +20,7 @@ use Rattle.groups.specs.Groups.{groups_at, word_at}
 use Rattle.groups.proofs.GroupLaws.{words_from}
 use Rattle.groups.proofs.Runs.{channel_shift}
 use Rattle.state.specs.View.{View, channels_of, total, waiting}
-use Rattle.into.specs.Into.{before_last, coming_at, groups_end, groups_for, groups_lms, groups_needed, groups_samples, pending_from, pending_to, taken_from}
+use Rattle.into.specs.Into.{coming_at, groups_end, groups_for, groups_lms, groups_needed, groups_samples, pending_from, pending_to, taken_from}
 use Rattle.into.proofs.Counts.{factor_some, groups_cover, groups_least, groups_none, groups_within_frame, slices_after}
 use Rattle.into.proofs.Ranges.{range_length}
 

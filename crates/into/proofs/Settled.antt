@@ -12,7 +12,6 @@ use Rattle.state.specs.declared.QoaDecoder.{QoaDecoder}
 use Rattle.into.specs.Left.{Leaves}
 use Rattle.into.specs.Into.{IntoDone, into_after, into_rules}
 use Rattle.into.specs.declared.DecodedInto.{DecodedInto}
-use Rattle.refusal.specs.declared.CountAnswer as I
 
 -- a call hands back one state, by its view
 pub leaves_one : (o : Option ℕ) (d : QoaDecoder) (v : View) (a b : QoaDecoder) → Leaves o d v a → Leaves o d v b → view a ≡ view b
