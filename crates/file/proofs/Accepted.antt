@@ -55,6 +55,10 @@ module _ (fixed : Bool) (c r : ℕ) where
       let rest = walks (whole_file fixed c r) (IsFrame c r) (whole_file_fit fixed c r) fs t is (notn (tail_ok (length t) true) k, tt) in
       rw (after_frame_lem f (joined fs t) i.whole, none_fires (some_rules b) n, none_fires (rules_at (like_first fixed c r) b) (quiet_frame fixed c r b s), rest)
 
+-- frames of c channels and rate r are those of the same numbers in another spelling
+same_frames : (fs : List (List ℕ)) {c d r s : ℕ} → d ≡ c → s ≡ r → Each (IsFrame c r) fs → Each (IsFrame d s) fs
+same_frames fs e q h = rw (e, q) h
+
 -- the reader's cut is one of the grammar
 pub sound : (b : List ℕ) (k : Cut) → cut_of b ≡ good k → IsCut k b
 unfolding cut_of
@@ -68,7 +72,7 @@ sound b k e =
     rw (← same) (record {
       head_whole = length-take-le 8 b long.long;
       head_magic = be_take 4 8 b 0 (lit≤ tt) ∙ long.is_magic;
-      frames = rw (parts.0.same_channels, parts.0.same_rate) (parts.0, parts.1.frames);
+      frames = same_frames (frame_at rest ∷ w.0.frames) parts.0.same_channels parts.0.same_rate (parts.0, parts.1.frames);
       tail_ok = nnot (tail_ok (length w.0.tail) true) parts.1.tail_ok.0;
       bytes = rw (parts.1.bytes, take-append-drop (length_of (header_at rest 0)) rest) (take-append-drop 8 b);
     })

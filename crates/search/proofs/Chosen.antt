@@ -8,7 +8,6 @@ use native.Mathlib.Omega.{arith}
 use native.Mathlib.Nat.{suc-mul}
 use lib.IntN.{ℤ}
 use lib.ListN.{length}
-use Rattle.lms.specs.Predictor.{at}
 use Rattle.lms.specs.declared.QoaLms.{QoaLms}
 use Rattle.search.specs.Candidate.{Best, no_best, leads, Outcome, not_taken, dropped, halved, finished, start_of, beats, candidate, best_with}
 use Rattle.search.specs.Search.{first_cost, ordered, Entry, unheard, onward, trace_from, trace_of, best_after, searched, leader_of, chosen, trials_in, trials_of}

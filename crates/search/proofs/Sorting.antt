@@ -93,6 +93,7 @@ pub data Has (k : ℕ) : List ℕ → Type 0 where
   there : {x : ℕ} {l : List ℕ} → Has k l → Has k (x ∷ l)
 
 pub all_has : (P : ℕ → Type 0) (k : ℕ) (l : List ℕ) → Has k l → All P l → P k
+all_has P k [] h a = elim h [ ]
 all_has P k (x ∷ l) here a = a.0
 all_has P k (x ∷ l) (there h) a = all_has P k l h a.1
 
@@ -107,6 +108,7 @@ has_new cost f (g ∷ gs) = by (dearer cost f g) (has_new cost f gs)
 
 has_old : (cost : ℕ → ℕ) (f k : ℕ) (l : List ℕ) → Has k l → Has k (insert cost f l)
 unfolding insert
+has_old cost f k [] h = elim h [ ]
 has_old cost f k (g ∷ gs) here = by (dearer cost f g)
   where
     by : (t : Bool) → Has g (cond t (f ∷ g ∷ gs) (g ∷ insert cost f gs))
