@@ -11,7 +11,6 @@ use Rattle.refusal.proofs.Told.{by_number, number_back, told_checked_lem, told_o
 use Rattle.encoder.specs.Encoder.{EncoderView, encoder_view, create_rules, new_view}
 use Rattle.encoder.specs.Frame.{after_frame}
 use Rattle.encoder.specs.Calls.{CreateDone, FrameDone, HandsBack, NewState, Told, frame_told, head_memory, head_told, refuses, refuses_14, told_encode, wrote}
-use Rattle.refusal.specs.declared.Checked as C
 use Rattle.encoder.specs.declared.CreatedEncoder.{CreatedEncoder}
 use Rattle.encoder.specs.declared.EncodeAnswer as E
 use Rattle.encoder.specs.declared.EncodedBytes.{EncodedBytes}

@@ -79,39 +79,41 @@ whole c = rw (place_is (goal.at.Else-bytes-place c).After-slices_of-slices) c.if
 -- the end of the bytes, after what remains
 module _ (c : After-tail_ok) where
   abbrev rest : Else-bytes-place
-  rest = c.before.before.before
+  rest = (goal.at.After-tail_ok c).Else-bytes-place
 
-  abbrev given : Start
-  given = start_of rest.before
+  abbrev slices : After-slices_of-slices
+  slices = (goal.at.After-tail_ok c).After-slices_of-slices
 
   abbrev gone : View
-  gone = past_rest given.args.bytes.now (view given.args.d)
+  gone = past_rest c.args.bytes.now (view c.args.d)
 
-  short : left_at given.args.bytes.now gone.at < 8
+  short : left_at c.args.bytes.now gone.at < 8
   unfolding past_rest
-  short = rw (place_is rest.before) c.if-left-lt-QOA_HEADER_SIZE.true
+  short = rw (place_is slices) c.if-left-lt-QOA_HEADER_SIZE.true
 
-  tail-is : c.tail_ok.result ≡ tail_ok (left_at given.args.bytes.now gone.at) (frame_read gone)
+  tail_is : c.tail_ok.result ≡ tail_ok (left_at c.args.bytes.now gone.at) (frame_read gone)
   unfolding past_rest
-  tail-is = c.tail_ok.ensures ∙ ap₂ (λ (p : ℕ) (b : Bool). tail_ok (left_at given.args.bytes.now p) b) (sym (place_is rest.before)) c.has_read.ensures
+  tail_is = c.tail_ok.ensures ∙ ap₂ (λ (p : ℕ) (b : Bool). tail_ok (left_at c.args.bytes.now p) b) (sym (place_is slices)) c.has_read.ensures
 
 pub returns-then-not-tail_ok : goal.returns-then-not-tail_ok
 returns-then-not-tail_ok c =
-    let tail = c.before.before in
-    let args = (given tail).args in
-    next_entered args.bytes.now args.d c.refused_frame-then-not-tail_ok.result (is-good (first-of (rest tail).before)) (whole (rest tail))
-    (enter_tail args.bytes.now args.d (gone tail) c.refused_frame-then-not-tail_ok.result (short tail) (sym (tail-is tail) ∙ not-true _ c.if-not-tail_ok.true-raw) c.refused_frame-then-not-tail_ok.ensures.0 c.refused_frame-then-not-tail_ok.ensures.1)
+    let tail = (goal.at.returns-then-not-tail_ok c).After-tail_ok in
+    let args = c.args in
+    next_entered args.bytes.now args.d c.refused_frame-then-not-tail_ok.result (is-good (first-of (slices tail))) (whole (rest tail))
+    (enter_tail args.bytes.now args.d (gone tail) c.refused_frame-then-not-tail_ok.result (short tail) (sym (tail_is tail) ∙ c.if-not-tail_ok.true) c.refused_frame-then-not-tail_ok.ensures.0 c.refused_frame-then-not-tail_ok.ensures.1)
 
 pub drop_rest-requires : goal.drop_rest-requires
 unfolding view
-drop_rest-requires c = let tail = c.before in record { good = is-good (first-of (rest tail).before); whole = whole (rest tail) }
+drop_rest-requires c =
+    let tail = (goal.at.drop_rest-requires c).After-tail_ok in
+    record { good = is-good (first-of (slices tail)); whole = whole (rest tail) }
 
 pub returns-then-left-lt-QOA_HEADER_SIZE : goal.returns-then-left-lt-QOA_HEADER_SIZE
 returns-then-left-lt-QOA_HEADER_SIZE c =
-    let tail = c.before.before in
-    let args = (given tail).args in
-    next_entered args.bytes.now args.d _ (is-good (first-of (rest tail).before)) (whole (rest tail))
-    (enter_end args.bytes.now args.d (gone tail) _ (short tail) (sym (tail-is tail) ∙ not-false _ c.if-not-tail_ok.false-raw) refl c.drop_rest.ensures)
+    let tail = (goal.at.returns-then-left-lt-QOA_HEADER_SIZE c).After-tail_ok in
+    let args = c.args in
+    next_entered args.bytes.now args.d _ (is-good (first-of (slices tail))) (whole (rest tail))
+    (enter_end args.bytes.now args.d (gone tail) _ (short tail) (sym (tail_is tail) ∙ c.if-not-tail_ok.false) refl c.drop_rest.ensures)
 
 pub returns : goal.returns
 unfolding past_rest

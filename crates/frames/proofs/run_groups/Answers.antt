@@ -1,7 +1,7 @@
 -- `frames::run_groups` meets its contract. The loop's invariant: the predictors are those after `g` groups.
 -- The measure is what is left of the groups. Assumes nothing.
 use mathlib.Core.Path.{◌≡◌, refl, sym, ◌∙◌}
-use Prim.Native.Nat.{◌+◌, ◌-◌, ◌*◌, ◌≤◌}
+use Prim.Native.Nat.{◌+◌, ◌*◌, ◌≤◌}
 use native.Mathlib.Nat.{mul-le-mul_right}
 use native.Mathlib.Omega.{arith}
 use lib.Dec.{lit<, lit≤}
@@ -60,7 +60,7 @@ loop-g-preserved c =
     let one = slices_one 20 (lit< tt) (lit≤ tt) in (
       omega arith,
       c.decode_groups-next.ensures.states ∙ rw (c.loop-g.invariant.1, one) (sym (groups_more args.bytes.now args.at args.channels args.states c.loop-g.g 1)),
-      c.decode_groups-next.auto.1.1.1.1.1.1.0 ∙ c.loop-g.invariant.2,
+      c.decode_groups-next.auto.out ∙ c.loop-g.invariant.2,
     )
 
 pub returns : goal.returns

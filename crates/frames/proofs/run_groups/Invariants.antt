@@ -10,6 +10,5 @@ use Rattle.frames.proofs.run_groups.Given as goal
 abbrev pub invariant-loop-g : goal.invariant-loop-g
 invariant-loop-g l = (l.g ≤ l.groups) × (l.all ≡ groups_states l.bytes l.at l.channels l.initial.all l.g) × (length l.scratch ≡ pending_len)
 
-
 abbrev pub decreases-loop-g : goal.decreases-loop-g
 decreases-loop-g l = l.groups - l.g

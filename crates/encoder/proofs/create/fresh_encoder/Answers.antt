@@ -1,5 +1,4 @@
 -- `encoder::create::fresh_encoder` meets its contract: each of the used channels has a new predictor. Assumes nothing.
-use borrow.Author.Rules.{rules}
 use mathlib.Core.Path.{ap}
 use mathlib.Core.List.{List}
 use native.Mathlib.Omega.{arith}
@@ -10,19 +9,12 @@ use Rattle.lms.specs.Predictor.{new_lms}
 use Rattle.lms.specs.declared.QoaLms.{QoaLms}
 use Rattle.format.specs.Predictor.{lms_of, no_lms}
 use Rattle.encoder.specs.Encoder.{EncoderView, new_view, encoder_view}
-use Rattle.encoder.proofs.create.fresh_encoder.Statement.{statement}
-use Rattle.encoder.proofs.create.fresh_encoder.Tie as tie
+use Rattle.encoder.proofs.create.fresh_encoder.Goals as goal
 
-new-lms-requires : tie.Need-new-lms-requires
-new-lms-requires c κs = search rules
-
-returns : tie.Need-returns
+pub returns : goal.returns
 unfolding encoder_view new_view
 returns c =
-    let args = c.before.args in
-    rw c.new-lms.ensures
+    let args = c.args in
+    rw c.new_lms-lms.ensures
     (ap {B = EncoderView} (λ (l : List QoaLms). record { channels = args.channels; rate = args.rate; total = args.total; lms = l })
-    (table_ext args.channels (lms_of (replicate max_channels new_lms)) (λ j. new_lms) (λ j h. get_or-replicate max_channels j new_lms no_lms (omega (arith, c.before.requires)))))
-
-pub fresh-encoder-spec : {M : Type 1} → statement M
-fresh-encoder-spec = tie.close (tie.spec new-lms-requires returns)
+    (table_ext args.channels (lms_of (replicate max_channels new_lms)) (λ j. new_lms) (λ j h. get_or-replicate max_channels j new_lms no_lms (omega (arith, c.requires)))))
