@@ -1,14 +1,10 @@
 -- What a call hands back at a reader's place, from what the decoder's call promises of the state set to that place. Assumes nothing.
 use mathlib.Core.Path.{◌≡◌, refl, sym, ap, ◌∙◌}
-use mathlib.Core.Logic.{inl, inr}
-use mathlib.Core.List.{List, [], ◌∷◌}
+use mathlib.Core.List.{List}
 use mathlib.Core.Option.{Option, none, some}
 use Prim.Native.Nat.{ℕ}
-use native.Mathlib.Omega.{arith}
 use lib.IntN.{ℤ}
 use lib.ListN.{length}
-use types.Run.{OneOf}
-use denote.Enum.Declared.{tag_of}
 use Rattle.refusal.specs.Rules.{good, refused, unless, first_of}
 use Rattle.refusal.proofs.Rules.{never}
 use Rattle.refusal.specs.Refusals.{number_of, told_count}
@@ -25,8 +21,6 @@ use Rattle.decoder.specs.declared.NextItem.{NextItem}
 use Rattle.refusal.specs.declared.CountAnswer as I
 use Rattle.frames.specs.declared.FrameAnswer as F
 use Rattle.decoder.specs.declared.QoaItem as Q
-use Rattle.frames.specs.contracts.FrameAnswer as F'
-use Rattle.decoder.specs.contracts.QoaItem as Q'
 use Rattle.reader.specs.Read.{FrameRead, Handed, IntoRead, ItemRead, placed, there}
 
 module _ {A : Type 0} (at : ℕ) (d : QoaDecoder) (v : View) (x : A) where
@@ -66,11 +60,10 @@ module _ (bs : List ℕ) (at : ℕ) (d : QoaDecoder) (out : List ℤ) (c : Decod
 -- ---- next_frame
 
 -- an answer that is no refusal
-found : (a : F.FrameAnswer) → OneOf (0 ∷ 1 ∷ []) (tag_of F'.the_type a) → (y : Found) × (told_frame a ≡ good y)
+found : (a : F.FrameAnswer) → ((r : Refusal) → a ≡ F.TheVariants.Refused r → ⊥) → (y : Found) × (told_frame a ≡ good y)
 found (F.TheVariants.Frame f) k = (a_frame f, refl)
 found F.TheVariants.End k = (no_frame, refl)
-found (F.TheVariants.Refused r) (inl k) = absurd (omega arith)
-found (F.TheVariants.Refused r) (inr k) = absurd (omega arith)
+found (F.TheVariants.Refused r) k = absurd (k r refl)
 
 module _ (bs : List ℕ) (at : ℕ) (d : QoaDecoder) (c : NextFrame) (x : NextDone bs (placed at d) c) where
   pub frame_kept : (r : Refusal) → c.answer ≡ F.TheVariants.Refused r → FrameRead bs at d at (record { answer = c.answer; state = d })
@@ -79,7 +72,7 @@ module _ (bs : List ℕ) (at : ℕ) (d : QoaDecoder) (c : NextFrame) (x : NextDo
     left = kept at d (next_after bs (there at d)) (next_found bs (there at d)) (first_of (next_rules bs (there at d))) (number_of r) (sym (ap told_frame e) ∙ x.told);
   }
 
-  pub frame_gone : OneOf (0 ∷ 1 ∷ []) (tag_of F'.the_type c.answer) → FrameRead bs at d c.state.at c
+  pub frame_gone : ((r : Refusal) → c.answer ≡ F.TheVariants.Refused r → ⊥) → FrameRead bs at d c.state.at c
   frame_gone k = record {
     told = x.told;
     left = let y = found c.answer k in gone at d (next_after bs (there at d)) (next_found bs (there at d)) (first_of (next_rules bs (there at d))) y.0 c.state (sym y.1 ∙ x.told) x.left;
@@ -87,13 +80,11 @@ module _ (bs : List ℕ) (at : ℕ) (d : QoaDecoder) (c : NextFrame) (x : NextDo
 
 -- ---- the item step
 
-given : (a : Q.QoaItem) → OneOf (0 ∷ 1 ∷ 2 ∷ []) (tag_of Q'.the_type a) → (y : Item) × (told_item a ≡ good y)
+given : (a : Q.QoaItem) → ((r : Refusal) → a ≡ Q.TheVariants.Refused r → ⊥) → (y : Item) × (told_item a ≡ good y)
 given (Q.TheVariants.Header f) k = (a_header f, refl)
 given (Q.TheVariants.Sample s) k = (a_sample s, refl)
 given Q.TheVariants.End k = (no_item, refl)
-given (Q.TheVariants.Refused r) (inl k) = absurd (omega arith)
-given (Q.TheVariants.Refused r) (inr (inl k)) = absurd (omega arith)
-given (Q.TheVariants.Refused r) (inr (inr k)) = absurd (omega arith)
+given (Q.TheVariants.Refused r) k = absurd (k r refl)
 
 module _ (bs : List ℕ) (at : ℕ) (d : QoaDecoder) (c : NextItem) (x : ItemDone bs (placed at d) c) where
   pub item_kept : (r : Refusal) → c.item ≡ Q.TheVariants.Refused r → ItemRead bs at d at (record { item = c.item; state = d })
@@ -102,7 +93,7 @@ module _ (bs : List ℕ) (at : ℕ) (d : QoaDecoder) (c : NextItem) (x : ItemDon
     left = kept at d (item_after bs (there at d)) (item_of bs (there at d)) (first_of (item_rules bs (there at d))) (number_of r) (sym (ap told_item e) ∙ x.told);
   }
 
-  pub item_gone : OneOf (0 ∷ 1 ∷ 2 ∷ []) (tag_of Q'.the_type c.item) → ItemRead bs at d c.state.at c
+  pub item_gone : ((r : Refusal) → c.item ≡ Q.TheVariants.Refused r → ⊥) → ItemRead bs at d c.state.at c
   item_gone k = record {
     told = x.told;
     left = let y = given c.item k in gone at d (item_after bs (there at d)) (item_of bs (there at d)) (first_of (item_rules bs (there at d))) y.0 c.state (sym y.1 ∙ x.told) x.left;

@@ -1,4 +1,3 @@
--- Laws for the crates above, and the walk that two calls share.
-mod Onward
+-- Laws for the crates above.
 pub mod Handing
 pub mod Settled
