@@ -56,7 +56,7 @@ module _ (fixed : Bool) (c r : ℕ) where
       rw (after_frame_lem f (joined fs t) i.whole, none_fires (some_rules b) n, none_fires (rules_at (like_first fixed c r) b) (quiet_frame fixed c r b s), rest)
 
 -- frames of c channels and rate r are those of the same numbers in another spelling
-same_frames : (fs : List (List ℕ)) {c d r s : ℕ} → d ≡ c → s ≡ r → Each (IsFrame c r) fs → Each (IsFrame d s) fs
+pub same_frames : (fs : List (List ℕ)) {c d r s : ℕ} → d ≡ c → s ≡ r → Each (IsFrame c r) fs → Each (IsFrame d s) fs
 same_frames fs e q h = rw (e, q) h
 
 -- the reader's cut is one of the grammar

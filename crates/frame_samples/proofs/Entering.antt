@@ -1,6 +1,6 @@
 -- A decoder that enters a whole good frame stands before the first of the frame's samples. Assumes nothing.
-use Prim.Native.Nat.{ℕ, ◌+◌, ◌-◌, ◌*◌, ◌≤◌, ◌<◌}
-use mathlib.Core.Path.{◌≡◌, refl, ap, ap₂, sym, ◌∙◌}
+use Prim.Native.Nat.{ℕ, ◌-◌, ◌≤◌, ◌<◌}
+use mathlib.Core.Path.{◌≡◌, ap, ap₂, sym, ◌∙◌}
 use mathlib.Core.List.{List}
 use mathlib.Core.Option.{none}
 use native.Mathlib.Nat.{zero-add}
@@ -10,7 +10,6 @@ use lib.IntN.{pos}
 use lib.ListN.{get_or, length}
 use Rattle.refusal.specs.Rules.{first_of}
 use Rattle.refusal.proofs.Rules.{none_fires}
-use Rattle.word.specs.Table.{table}
 use Rattle.word.proofs.Fields.{AreBytes}
 use Rattle.word.proofs.Tables.{get_or_table, length_table}
 use Rattle.format.specs.Format.{frame_length, slices_of, state_end}

@@ -1,6 +1,6 @@
 -- The next samples of a frame: what is decoded is what stands there in the frame's samples, and the decoder stands after them. Assumes nothing.
-use Prim.Native.Nat.{ℕ, ◌+◌, ◌-◌, ◌*◌, ◌≤◌, ◌<◌, min}
-use mathlib.Core.Path.{◌≡◌, refl, ap, ap₂, sym, ◌∙◌}
+use Prim.Native.Nat.{ℕ, ◌+◌, ◌-◌, ◌*◌, ◌≤◌, min}
+use mathlib.Core.Path.{◌≡◌, ap, sym, ◌∙◌}
 use mathlib.Core.List.{List, ◌++◌}
 use mathlib.Core.Option.{none}
 use native.Mathlib.Nat.{mul-le-mul_right}
@@ -20,7 +20,7 @@ use Rattle.word.proofs.Tests.{tests}
 use Rattle.format.specs.Format.{slices_of}
 use Rattle.file.specs.Frame.{frame_samples}
 use Rattle.state.specs.View.{View, channels_of, total, view, waiting}
-use Rattle.into.specs.Into.{IntoDone, coming_at, groups_end, into_after, into_count, into_groups, into_rules}
+use Rattle.into.specs.Into.{IntoDone, coming_at, into_after, into_count, into_groups, into_rules}
 use Rattle.into.specs.declared.DecodedInto.{DecodedInto}
 use Rattle.into.proofs.Counts.{groups_within_frame}
 use Rattle.into.proofs.Onward.{coming_onward, end_onward, total_onward}

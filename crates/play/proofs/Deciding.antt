@@ -17,7 +17,7 @@ use Rattle.format.specs.Checks.{frame_rules}
 use Rattle.format.specs.Parts.{file_header}
 use Rattle.format.specs.declared.frame.FrameHeader.{FrameHeader}
 use Rattle.format.specs.declared.checks.Kind.{Kind}
-use Rattle.play.specs.Played.{most_held, nothing, number, too_large}
+use Rattle.play.specs.Played.{most_held, number, too_large}
 use Rattle.play.specs.Decisions.{between, counted, decided_body, decided_end, decided_head, decided_size, decided_start, decided_state, kind_for, plays, reads, stops, within}
 use Rattle.play.specs.declared.Run.{Run}
 use Rattle.play.specs.declared.Stage.TheVariants.{FrameState, FrameBody}

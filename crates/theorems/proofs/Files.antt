@@ -12,6 +12,7 @@ use Rattle.refusal.specs.Rules.{good}
 use Rattle.word.proofs.BytesLaws.{be_of_bytes}
 use Rattle.format.specs.FileHeader.{magic}
 use Rattle.format.specs.Format.{most_bytes}
+use Rattle.file.proofs.Accepted.{same_frames}
 use Rattle.format.specs.Grammar.{Cut, Each, IsCut, IsFrame, joined}
 use Rattle.format.proofs.Tails.{tail_none}
 use Rattle.file.specs.Frame.{frame_samples}
@@ -85,7 +86,7 @@ module _ (total : ℕ) (v : EncoderView) (first : List ℤ) (others : List (List
       record {
         head_whole = length_head total;
         head_magic = head_magic total;
-        frames = rw (frames.0.same_channels, frames.0.same_rate) frames;
+        frames = same_frames (frames_from v (first ∷ others)) frames.0.same_channels frames.0.same_rate frames;
         tail_ok = tail_none;
         bytes = ap (λ (b : List ℕ). head_bytes total ++ b) (frames_joined v (first ∷ others));
       }
