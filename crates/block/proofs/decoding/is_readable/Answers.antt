@@ -18,7 +18,7 @@ unfolding readable_decoder is_decoder
 returns-then-block-gt1-2 c = simp (eq-eqb _ _ c.if-block-ne-DECODER_SIZE.false, le-leb _ _ c.if-block-gt1.false, lt-leb _ _ c.if-block-gt1-2.true)
 
 pub overflow_cast-block : goal.overflow_cast-block
-overflow_cast-block c = omega (arith, (c.shared_slice_known-4-1.given 18).fits)
+overflow_cast-block c = omega arith
 
 pub returns-then-block-gt-QOA_MAX_CHANNELS : goal.returns-then-block-gt-QOA_MAX_CHANNELS
 unfolding readable_decoder is_decoder

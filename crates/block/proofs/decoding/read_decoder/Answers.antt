@@ -1,5 +1,4 @@
 -- `block::decoding::read_decoder` meets its contract. Assumes nothing.
-use borrow.Author.Tests.{not-false, not-true}
 use native.Mathlib.Omega.{arith}
 use mathlib.Core.Path.{◌≡◌, refl, sym, ap, ◌∙◌}
 use mathlib.Core.Bool.{true}
@@ -12,14 +11,14 @@ use Rattle.block.proofs.decoding.read_decoder.Goals.{Else-not-is_readable}
 
 -- past the test the block is readable
 yes : (c : Else-not-is_readable) → readable_decoder c.args.block.now ≡ true
-yes c = sym c.is_readable.ensures ∙ not-false _ c.if-not-is_readable.false-raw
+yes c = sym c.is_readable.ensures ∙ c.if-not-is_readable.false
 
 facts : (c : Else-not-is_readable) → DecoderFacts c.args.block.now
 facts c = decoder_facts _ (yes c)
 
 pub returns-then-not-is_readable : goal.returns-then-not-is_readable
 returns-then-not-is_readable c =
-    let no = sym c.is_readable.ensures ∙ not-true _ c.if-not-is_readable.true-raw in
+    let no = sym c.is_readable.ensures ∙ c.if-not-is_readable.true in
     record { readable = sym no; state = both_ways _ no }
 
 pub read_frame-frame-requires : goal.read_frame-frame-requires

@@ -10,7 +10,7 @@ unfolding readable_encoder is_encoder
 returns-then-block-ne-ENCODER_SIZE c = simp (ne_eqb _ _ c.if-block-ne-ENCODER_SIZE.true)
 
 pub overflow_cast-result : goal.overflow_cast-result
-overflow_cast-result c = omega (arith, (c.shared_slice_known-1.given 0).fits)
+overflow_cast-result c = omega arith
 
 pub returns : goal.returns
 unfolding readable_encoder is_encoder

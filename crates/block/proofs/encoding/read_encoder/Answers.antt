@@ -1,5 +1,4 @@
 -- `block::encoding::read_encoder` meets its contract. Assumes nothing.
-use borrow.Author.Tests.{not-false, not-true}
 use native.Mathlib.Omega.{arith}
 use mathlib.Core.Path.{◌≡◌, refl, sym, ◌∙◌}
 use mathlib.Core.Bool.{true}
@@ -10,14 +9,14 @@ use Rattle.block.proofs.encoding.read_encoder.Goals.{Else-not-is_readable}
 
 -- past the test the block is readable
 yes : (c : Else-not-is_readable) → readable_encoder c.args.block.now ≡ true
-yes c = sym c.is_readable.ensures ∙ not-false _ c.if-not-is_readable.false-raw
+yes c = sym c.is_readable.ensures ∙ c.if-not-is_readable.false
 
 facts : (c : Else-not-is_readable) → EncoderFacts c.args.block.now
 facts c = encoder_facts _ (yes c)
 
 pub returns-then-not-is_readable : goal.returns-then-not-is_readable
 returns-then-not-is_readable c =
-    let no = sym c.is_readable.ensures ∙ not-true _ c.if-not-is_readable.true-raw in
+    let no = sym c.is_readable.ensures ∙ c.if-not-is_readable.true in
     record { readable = sym no; state = both_ways _ no }
 
 pub bounds-block-0 : goal.bounds-block-0
@@ -30,7 +29,7 @@ pub read_u32-requires-2 : goal.read_u32-requires-2
 read_u32-requires-2 c = omega (arith, (facts (goal.at.read_u32-requires-2 c).Else-not-is_readable).long)
 
 pub overflow_cast-channels : goal.overflow_cast-channels
-overflow_cast-channels c = omega (arith, (c.shared_slice_known-2-1.given 0).fits)
+overflow_cast-channels c = omega arith
 
 pub read_predictors-requires : goal.read_predictors-requires
 read_predictors-requires c = omega (arith, (facts (goal.at.read_predictors-requires c).Else-not-is_readable).long, (facts (goal.at.read_predictors-requires c).Else-not-is_readable).few_channels)
