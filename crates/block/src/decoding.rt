@@ -11,7 +11,7 @@ ghost use Rattle.wrap.specs.Wrap.{low16};
 ghost use Rattle.block.specs.DecoderBlock.{decoder_bytes, decoder_size, fixed_bytes, facts_bytes, frame_in, mode_bytes, mode_in, rest_bytes, sample_in};
 ghost use Rattle.block.specs.Parts.{DecoderRead, readable_decoder};
 
-use crate::predictors::{PREDICTOR_SIZE, read_predictors, write_predictors};
+use crate::kept_predictors::{PREDICTOR_SIZE, read_predictors, write_predictors};
 use format::frame::QOA_MAX_CHANNELS;
 use state::{FrameFacts, PENDING, ProcessingMode, QoaDecoder};
 

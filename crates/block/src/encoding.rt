@@ -6,7 +6,7 @@ ghost use Rattle.encoder.specs.Encoder.{encoder_view};
 ghost use Rattle.block.specs.EncoderBlock.{encoder_bytes, encoder_size};
 ghost use Rattle.block.specs.Parts.{EncoderRead, readable_encoder};
 
-use crate::predictors::{PREDICTOR_SIZE, read_predictors, write_predictors, zero_predictor};
+use crate::kept_predictors::{PREDICTOR_SIZE, read_predictors, write_predictors, zero_predictor};
 use encoder::QoaEncoder;
 use format::frame::QOA_MAX_CHANNELS;
 

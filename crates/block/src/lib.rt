@@ -3,7 +3,7 @@
 // States as blocks of bytes with a fixed layout: numbers big-endian, signed ones in two's complement.
 pub mod decoding;
 pub mod encoding;
-pub mod predictors;
+pub mod kept_predictors;
 
 pub use decoding::{BlockDecoder, DECODER_SIZE, read_decoder, write_decoder};
 pub use encoding::{BlockEncoder, ENCODER_SIZE, read_encoder, write_encoder};

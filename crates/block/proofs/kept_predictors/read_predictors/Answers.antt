@@ -1,4 +1,4 @@
--- `block::predictors::read_predictors` meets its contract. The invariant: the predictors passed are stored. Assumes nothing.
+-- `block::kept_predictors::read_predictors` meets its contract. The invariant: the predictors passed are stored. Assumes nothing.
 use mathlib.Core.Path.{◌≡◌, refl}
 use Prim.Native.Nat.{◌+◌, ◌*◌}
 use native.Mathlib.Nat.{mul-one, zero-add}
@@ -7,7 +7,7 @@ use native.Mathlib.Omega.{arith}
 use Rattle.word.specs.Parts.{written}
 use Rattle.state.proofs.Views.{stored_lms}
 use Rattle.block.specs.Predictors.{predictor_in, predictors_in}
-use Rattle.block.proofs.predictors.read_predictors.Goals as goal
+use Rattle.block.proofs.kept_predictors.read_predictors.Goals as goal
 
 pub zero_predictor-zero-requires : goal.zero_predictor-zero-requires
 zero_predictor-zero-requires c = tt

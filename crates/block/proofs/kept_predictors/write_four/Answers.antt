@@ -1,4 +1,4 @@
--- `block::predictors::write_four` meets its contract. Assumes nothing.
+-- `block::kept_predictors::write_four` meets its contract. Assumes nothing.
 use native.Mathlib.Omega.{arith}
 use mathlib.Core.Path.{◌≡◌, ap, ◌∙◌}
 use Prim.Native.Nat.{ℕ}
@@ -10,8 +10,8 @@ use Rattle.wrap.proofs.Elements.{element}
 use Rattle.wrap.proofs.Integers.{reread}
 use Rattle.lms.specs.Predictor.{at}
 use Rattle.block.proofs.Layouts.{four_over}
-use Rattle.block.proofs.predictors.write_four.Goals as goal
-use Rattle.block.proofs.predictors.write_four.Goals.{Start}
+use Rattle.block.proofs.kept_predictors.write_four.Goals as goal
+use Rattle.block.proofs.kept_predictors.write_four.Goals.{Start}
 
 in_range : (c : Start) (i : ℕ) → SFits w32 (at c.args.xs i)
 in_range c i = search element

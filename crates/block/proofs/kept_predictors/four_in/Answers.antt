@@ -1,4 +1,4 @@
--- `block::predictors::four_in` meets its contract. Assumes nothing.
+-- `block::kept_predictors::four_in` meets its contract. Assumes nothing.
 use mathlib.Core.Path.{sym, ap, ◌∙◌}
 use Prim.Native.Nat.{ℕ}
 use native.Mathlib.Nat.{add-zero}
@@ -9,7 +9,7 @@ use mir.Syntax.{w32}
 use Rattle.word.specs.Table.{table}
 use Rattle.wrap.proofs.Integers.{returned}
 use Rattle.block.specs.Predictors.{four_in}
-use Rattle.block.proofs.predictors.four_in.Goals as goal
+use Rattle.block.proofs.kept_predictors.four_in.Goals as goal
 
 pub returns : goal.returns
 unfolding four_in table

@@ -1,4 +1,4 @@
--- `block::predictors::write_predictors` meets its contract. The invariant: the first `j` predictors are stored. Assumes nothing.
+-- `block::kept_predictors::write_predictors` meets its contract. The invariant: the first `j` predictors are stored. Assumes nothing.
 use mathlib.Core.Path.{◌≡◌, refl, sym}
 use Prim.Native.Nat.{◌+◌, ◌*◌}
 use native.Mathlib.Numerals.{add-one}
@@ -13,9 +13,9 @@ use Rattle.refusal.proofs.Lents.{over_nil}
 use Rattle.block.specs.Predictors.{predictors_bytes}
 use Rattle.block.proofs.Holding.{held_bytes}
 use Rattle.block.proofs.Layouts.{length_predictor}
-use Rattle.block.proofs.predictors.write_predictors.Invariants.{stored}
-use Rattle.block.proofs.predictors.write_predictors.Goals as goal
-use Rattle.block.proofs.predictors.write_predictors.Goals.{At-loop-j}
+use Rattle.block.proofs.kept_predictors.write_predictors.Invariants.{stored}
+use Rattle.block.proofs.kept_predictors.write_predictors.Goals as goal
+use Rattle.block.proofs.kept_predictors.write_predictors.Goals.{At-loop-j}
 
 -- as long as it was
 long : (c : At-loop-j) → length c.loop-j.block ≡ length c.args.block.now

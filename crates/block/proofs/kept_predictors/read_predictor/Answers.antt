@@ -1,6 +1,6 @@
--- `block::predictors::read_predictor` meets its contract. Assumes nothing.
+-- `block::kept_predictors::read_predictor` meets its contract. Assumes nothing.
 use Rattle.block.specs.Predictors.{predictor_in}
-use Rattle.block.proofs.predictors.read_predictor.Goals as goal
+use Rattle.block.proofs.kept_predictors.read_predictor.Goals as goal
 
 pub returns : goal.returns
 unfolding predictor_in

@@ -1,4 +1,4 @@
--- `block::predictors::write_predictors` meets its contract. The invariant: the first `j` predictors are stored. Assumes nothing.
+-- `block::kept_predictors::write_predictors` meets its contract. The invariant: the first `j` predictors are stored. Assumes nothing.
 use Rattle.block.specs.Predictors.{predictor_bytes}
 use Rattle.format.specs.Predictor.{lms_of}
 use Rattle.lms.specs.declared.QoaLms.{QoaLms}
@@ -10,7 +10,7 @@ use Rattle.format.specs.Format.{max_channels}
 use Rattle.body.specs.Laid.{laid}
 use Rattle.refusal.specs.Rules.{good}
 use Rattle.refusal.specs.Lent.{laid_over}
-use Rattle.block.proofs.predictors.write_predictors.Given as goal
+use Rattle.block.proofs.kept_predictors.write_predictors.Given as goal
 
 -- a channel's bytes
 abbrev pub stored : List QoaLms → ℕ → ℕ → List ℕ

@@ -1,10 +1,10 @@
--- `block::predictors::write_predictor` meets its contract. Assumes nothing.
+-- `block::kept_predictors::write_predictor` meets its contract. Assumes nothing.
 use native.Mathlib.Omega.{arith}
 use Prim.Native.Nat.{◌+◌}
 use Rattle.refusal.proofs.Lents.{over_then}
 use Rattle.block.specs.Predictors.{four_bytes, predictor_bytes}
 use Rattle.block.proofs.Layouts.{length_four}
-use Rattle.block.proofs.predictors.write_predictor.Goals as goal
+use Rattle.block.proofs.kept_predictors.write_predictor.Goals as goal
 
 pub returns : goal.returns
 unfolding predictor_bytes
