@@ -11,11 +11,13 @@ mkdir -p "$out"
 bash "$root/tools/library/build.sh"
 
 # The port's own loop over decode_into, with its state by value, which the C interface is compared with: glue in a crate of its own. 
-repo=$out/repo
+# Its files stand outside of this checkout, where rt would take them for its own.
+repo=${TMPDIR:-/tmp}/tromvask-bench
 rm -rf "$repo"
 mkdir -p "$repo/crates/blocks/src" "$repo/crates/blocks/proofs/blocks_decode"
 for crate in $(bash "$root/tools/library/below.sh" state decoder); do
-    cp -r "$root/crates/$crate" "$repo/crates/"
+    mkdir -p "$repo/crates/$crate"
+    for part in src specs proofs; do [ ! -d "$root/crates/$crate/$part" ] || cp -r "$root/crates/$crate/$part" "$repo/crates/$crate/"; done
     grep "^$crate:" "$root/crates.txt"
 done >"$repo/crates.txt"
 echo 'blocks staticlib: refusal state into frames decoder' >>"$repo/crates.txt"

@@ -70,5 +70,5 @@ Libs: -L\${libdir} -ltromvask
 END
 cp "$header" "$out/include/tromvask.h"
 mv -f "$out/new/libtromvask.a" "$out/new/libtromvask.so" "$out/new/tromvask.pc" "$out/"
-ln -sfn libtromvask.so "$out/libtromvask.so.0"
+cp "$out/libtromvask.so" "$out/libtromvask.so.0"
 say "target/library has libtromvask.a, libtromvask.so, include/tromvask.h and tromvask.pc: $(echo "$defined" | wc -l) functions, which need ${needed% }"

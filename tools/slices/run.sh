@@ -8,11 +8,13 @@ out=$root/target/slices
 from=$(bash "$root/tools/oracle/source.sh")
 
 # The Rattle side: a repository of its own with copies of the crates and the glue, proved and written as an archive.
-repo=$out/repo
+# Its files stand outside of this checkout, where rt would take them for its own.
+repo=${TMPDIR:-/tmp}/tromvask-slices
 rm -rf "$repo/crates"
 mkdir -p "$repo/crates/slices/src"
 for crate in $(bash "$root/tools/library/below.sh" lms scale search); do
-    cp -r "$root/crates/$crate" "$repo/crates/"
+    mkdir -p "$repo/crates/$crate"
+    for part in src specs proofs; do [ ! -d "$root/crates/$crate/$part" ] || cp -r "$root/crates/$crate/$part" "$repo/crates/$crate/"; done
     grep "^$crate:" "$root/crates.txt"
 done >"$repo/crates.txt"
 echo 'slices staticlib: lms scale search' >>"$repo/crates.txt"
