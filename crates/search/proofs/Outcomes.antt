@@ -10,7 +10,7 @@ use lib.IntN.{ℤ}
 use lib.Dec.{eqb}
 use lib.ListN.{length}
 use Rattle.lms.specs.declared.QoaLms.{QoaLms}
-use Rattle.search.specs.Candidate.{Best, no_best, goes_on, over-best, over-half, Outcome, not_taken, dropped, halved, finished, start_of, step_of, exceeds, verdict, ruled, run_from, candidate}
+use Rattle.search.specs.Candidate.{Best, no_best, goes_on, over_best, over_half, Outcome, not_taken, dropped, halved, finished, start_of, step_of, exceeds, verdict, ruled, run_from, candidate}
 use Rattle.search.specs.Search.{first_cost, later_trials}
 use Rattle.search.specs.declared.Run.{Run}
 use Rattle.search.proofs.Runs.{whole}
@@ -37,7 +37,7 @@ Fair b a w n (finished r) = r ≡ w
 
 -- By the three tests of a verdict.
 fair_tests : (b : Best) (a : ℕ) (w : Run) (n i rank : ℕ) (o : Outcome) (p q t : Bool) → exceeds rank b ≡ p → eqb i 10 ≡ q → exceeds (2 * rank) b ≡ t → rank ≤ w.rank → i < n → Fair b a w n o
-    → Fair b a w n (ruled (cond p over-best (cond q (cond t over-half goes_on) goes_on)) i rank o)
+    → Fair b a w n (ruled (cond p over_best (cond q (cond t over_half goes_on) goes_on)) i rank o)
 unfolding Fair
 fair_tests b a w n i rank o true q t ep eq et h l fair = (ep, h, l)
 fair_tests b a w n i rank o false false t ep eq et h l fair = fair

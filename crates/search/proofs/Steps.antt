@@ -17,7 +17,7 @@ use Rattle.lms.specs.declared.QoaLms.{QoaLms}
 use Rattle.trial.specs.declared.Heard.{Heard}
 use Rattle.trial.specs.Trial.{tried}
 use Rattle.trial.proofs.Bounds.{tried_heard}
-use Rattle.search.specs.Candidate.{Best, no_best, leads, Verdict, goes_on, over-best, over-half, Outcome, not_taken, dropped, halved, finished, start_of, step_of, exceeds, beats, verdict, ruled, run_from, candidate, best_with}
+use Rattle.search.specs.Candidate.{Best, no_best, leads, Verdict, goes_on, over_best, over_half, Outcome, not_taken, dropped, halved, finished, start_of, step_of, exceeds, beats, verdict, ruled, run_from, candidate, best_with}
 use Rattle.search.specs.Search.{first_cost, unheard, trace_from, best_after, leader_of, later_trials, trials_in}
 use Rattle.search.specs.Parts.{begun_of, drops}
 use Rattle.search.specs.declared.Run.{Run}
@@ -43,7 +43,7 @@ pub data Lost (i rank : ℕ) : Outcome → Type 0 where
 
 -- The verdict, and the code's test, by the three comparisons that they are made of.
 by_tests : Bool → Bool → Bool → Verdict
-by_tests p q t = cond p over-best (cond q (cond t over-half goes_on) goes_on)
+by_tests p q t = cond p over_best (cond q (cond t over_half goes_on) goes_on)
 
 drop_tests : Bool → Bool → Bool → Bool
 drop_tests p q t = cond p true (cond q t false)

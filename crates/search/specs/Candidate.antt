@@ -38,11 +38,11 @@ beats rank (leads f r) = ltb rank r.rank
 
 -- what is said of a candidate at a sample after its first; where both drops apply, the plain one is named
 pub data Verdict : Type 0 where
-  goes_on over-best over-half : Verdict
+  goes_on over_best over_half : Verdict
 
 -- its running rank exceeds the best, or, at the eleventh sample (number 10), twice its rank does
 unfoldable pub verdict : Best → ℕ → ℕ → Verdict
-verdict b i rank = cond (exceeds rank b) over-best (cond (eqb i 10) (cond (exceeds (2 * rank) b) over-half goes_on) goes_on)
+verdict b i rank = cond (exceeds rank b) over_best (cond (eqb i 10) (cond (exceeds (2 * rank) b) over_half goes_on) goes_on)
 
 -- ---- how it ends
 
@@ -55,8 +55,8 @@ pub data Outcome : Type 0 where
 
 abbrev pub ruled : Verdict → ℕ → ℕ → Outcome → Outcome
 ruled goes_on i rank o = o
-ruled over-best i rank o = dropped i rank
-ruled over-half i rank o = halved rank
+ruled over_best i rank o = dropped i rank
+ruled over_half i rank o = halved rank
 
 -- from sample i on, with the best that it met, its run so far and the samples left
 unfoldable pub run_from : ℕ → Best → ℕ → Run → List ℤ → Outcome
