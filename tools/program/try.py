@@ -1,7 +1,7 @@
 #!/usr/bin/env python3
 """Tries the program qoa_decode as a user would, against the source's decoder (target/oracle/oracle).
 
-Run from the repository's root, after `rt check qoa_decode` and `bash tools/oracle/build.sh`. Prints how many runs were
+Run from the repository's root, after `rt run` in crates/qoa_decode and `bash tools/oracle/build.sh`. Prints how many runs were
 compared, or the first that differs, with status 1. On a machine that is no x86-64 one the program runs under the kit's
 emulator.
 """
@@ -11,7 +11,7 @@ import struct
 import subprocess
 import sys
 
-PROGRAM, ORACLE = ["target/bin/qoa_decode"], "target/oracle/oracle"
+PROGRAM, ORACLE = ["crates/qoa_decode/out/qoa_decode"], "target/oracle/oracle"
 if platform.machine() != "x86_64":
     doc = subprocess.run(["rt", "doc"], capture_output=True, check=True, text=True).stdout.strip()
     kit = os.path.dirname(os.path.dirname(doc))

@@ -10,7 +10,6 @@ use lib.IntN.{pos, ◌+ℤ◌}
 use lib.Signed.{lt_z}
 use mir.Facts.{to_z-of_z}
 use mir.Syntax.{w32}
-use Rattle.wrap.proofs.Elements.{element}
 use Rattle.wrap.proofs.Integers.{abs_add, fits_abs, reread}
 use Rattle.ahead.specs.Parts.{gained, side_of}
 use Rattle.lms.specs.Predictor.{at}

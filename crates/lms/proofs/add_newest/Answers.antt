@@ -1,6 +1,6 @@
 -- `lms::add_newest` meets its contract: low bits of a sum are those of the integers, whatever number the other low bits are of.
 -- Assumes nothing.
-use Rattle.std.proofs.Common.{ℤ, ◌*ℤ◌, ap, ◌∙◌, ap₂, to_z-of_z, w32, to_z, rules}
+use Rattle.std.proofs.Common.{ℤ, ◌*ℤ◌, ap, ◌∙◌, ap₂, to_z-of_z, w32, to_z}
 use Rattle.wrap.specs.Wrap.{low32}
 use Rattle.wrap.proofs.Integers.{fits_of}
 use Rattle.wrap.proofs.Modulo.{add_low}

@@ -1,5 +1,5 @@
 -- `lms::are_short` meets its contract. The invariant: each number passed is of 16 bits. Assumes nothing.
-use Rattle.std.proofs.Common.{◌≡◌, ℕ, ◌-◌, Bool, true, ltb, List, length, ℤ, sym, refl, ap, ◌∙◌, add-one, arith, to_z-of_z, w32, rules}
+use Rattle.std.proofs.Common.{◌≡◌, ltb, length, ℤ, sym, refl, ap, ◌∙◌, add-one, arith, to_z-of_z, w32, rules}
 use borrow.Author.Tests.{not-false, not-true}
 use lib.Signed.{mag}
 use Rattle.wrap.proofs.Integers.{fits_of}

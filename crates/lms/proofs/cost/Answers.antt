@@ -1,6 +1,6 @@
 -- `lms::cost` meets its contract. The error is below 2^16, so its square leaves room for that of any penalty.
 -- Assumes nothing.
-use Rattle.std.proofs.Common.{◌≡◌, ◌*◌, ◌^◌, ◌≤◌, ◌-ℤ◌, nat_abs, ap, ◌∙◌, le_trans, lt_of_le_of_lt, add-le-add, mul-le-mul, lit<, lit≤, to_z-of_z, w16, w32, rules}
+use Rattle.std.proofs.Common.{◌≡◌, ◌*◌, ◌^◌, ◌≤◌, ◌-ℤ◌, nat_abs, ap, ◌∙◌, le_trans, lt_of_le_of_lt, add-le-add, mul-le-mul, lit<, lit≤, to_z-of_z, w16, w32}
 use native.Mathlib.Nat.{le-pred_of_lt}
 use Rattle.wrap.proofs.Integers.{abs_fits, abs_sub, fits_abs, reread, widen_back, widen_fits}
 use Rattle.lms.specs.Predictor.{cost_of}

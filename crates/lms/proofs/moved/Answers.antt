@@ -1,6 +1,6 @@
 -- `lms::moved` meets its contract. Each element is in its type's range, so what the machine reads back from its bits is the element.
 -- Assumes nothing.
-use Rattle.std.proofs.Common.{◌≡◌, ℕ, ◌^◌, ◌<◌, ◌≤◌, [], ◌∷◌, ℤ, nat_abs, ◌∙◌, lit<, to_z-of_z, w32, SFits, rules}
+use Rattle.std.proofs.Common.{◌≡◌, ℕ, ◌^◌, ◌<◌, ◌≤◌, [], ◌∷◌, ℤ, nat_abs, ◌∙◌, lit<, to_z-of_z, w32, SFits}
 use lib.Signed.{mag, shr_z}
 use Rattle.wrap.proofs.Integers.{abs_shift, fits_of, reread, shift_back}
 use Rattle.lms.specs.Predictor.{at, next_weight, stepped, updated}

@@ -1,6 +1,6 @@
 -- `lms::older_dot` meets its contract. The low bits of the products and of their sums are those of the integers.
 -- Assumes nothing.
-use Rattle.std.proofs.Common.{◌≡◌, ℕ, ℤ, ◌+ℤ◌, ◌*ℤ◌, ◌∙◌, ap₂, to_z-of_z, w32, SFits, rules}
+use Rattle.std.proofs.Common.{◌≡◌, ℕ, ℤ, ◌+ℤ◌, ◌*ℤ◌, ◌∙◌, ap₂, to_z-of_z, w32, SFits}
 use Rattle.wrap.specs.Wrap.{low32}
 use Rattle.wrap.proofs.Elements.{element}
 use Rattle.wrap.proofs.Integers.{reread}

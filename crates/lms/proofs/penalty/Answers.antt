@@ -1,6 +1,6 @@
 -- `lms::penalty` meets its contract. Above 2303 the difference is the excess, which the shift keeps small.
 -- Assumes nothing.
-use Rattle.std.proofs.Common.{◌≡◌, ℕ, ◌^◌, ◌≤◌, true, false, T, ℤ, pos, negsuc, ◌-ℤ◌, sym, refl, ap, ◌∙◌, subst, zero-le, lt_trans, le_of_lt, sub-le, sub-eq-zero_of_le, lit<, to_z-of_z, w32, SFits, rules, leb-false, leb-true}
+use Rattle.std.proofs.Common.{◌≡◌, ℕ, ◌^◌, ◌≤◌, true, false, T, ℤ, pos, negsuc, ◌-ℤ◌, sym, refl, ap, ◌∙◌, subst, zero-le, lt_trans, le_of_lt, sub-le, sub-eq-zero_of_le, lit<, to_z-of_z, w32, SFits, leb-false, leb-true}
 use lib.Signed.{mag, le_z, shr_z}
 use mir.ValLaws.{sfits_le}
 use Rattle.wrap.specs.Wrap.{wrap32}

@@ -1,6 +1,6 @@
 -- `lms::predict` meets its contract: a shift of a number in range.
 -- Assumes nothing.
-use Rattle.std.proofs.Common.{◌^◌, ℤ, ap, ◌∙◌, w32, rules}
+use Rattle.std.proofs.Common.{◌^◌, ℤ, ap, ◌∙◌, w32}
 use lib.Signed.{shr_z}
 use Rattle.wrap.proofs.Integers.{fits_of, shift_back}
 use Rattle.lms.specs.Predictor.{predicted}

@@ -1,6 +1,6 @@
 -- `lms::reconstruct` meets its contract: the sum fits.
 -- Assumes nothing.
-use Rattle.std.proofs.Common.{◌≡◌, ◌+ℤ◌, ap, ◌∙◌, le_trans, add-le-add, lit<, to_z-of_z, w16, w32, rules}
+use Rattle.std.proofs.Common.{◌≡◌, ◌+ℤ◌, ap, ◌∙◌, le_trans, add-le-add, lit<, to_z-of_z, w16, w32}
 use Rattle.wrap.proofs.Integers.{abs_add, fits_abs, reread, returned}
 use Rattle.lms.specs.Predictor.{clamp16}
 use Rattle.lms.proofs.reconstruct.Goals as goal

@@ -1,6 +1,6 @@
 -- `lms::wrapped_dot` meets its contract: the order of the sums does not matter.
 -- Assumes nothing.
-use Rattle.std.proofs.Common.{ℤ, ◌+ℤ◌, ◌*ℤ◌, ap, ◌∙◌, ap₂, to_z-of_z, w32, SFits, rules}
+use Rattle.std.proofs.Common.{ℤ, ◌+ℤ◌, ◌*ℤ◌, ap, ◌∙◌, ap₂, to_z-of_z, w32, SFits}
 use lib.IntN.{+ℤ_assoc}
 use Rattle.wrap.specs.Wrap.{wrap32}
 use Rattle.wrap.proofs.Elements.{element}

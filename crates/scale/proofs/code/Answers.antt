@@ -1,7 +1,7 @@
 -- `scale::code` meets its contract. Between -8 and 8 the quotient plus 8 is the place, and past either end the place is the end's.
 -- Assumes nothing.
 use mir.Val.{SFits}
-use Rattle.std.proofs.Common.{◌≡◌, ℕ, suc, ◌-◌, true, false, T, get_or, ℤ, pos, negsuc, ◌+ℤ◌, sym, refl, ap, ◌∙◌, subst, lt_trans, lt_irrefl, arith, lit<, to_z-of_z, w32, rules, ltb-false, ltb-true}
+use Rattle.std.proofs.Common.{◌≡◌, ℕ, suc, ◌-◌, true, false, T, get_or, ℤ, pos, negsuc, ◌+ℤ◌, sym, refl, ap, ◌∙◌, subst, lt_trans, lt_irrefl, arith, lit<, to_z-of_z, w32, ltb-false, ltb-true}
 use lib.Signed.{lt_z}
 use Rattle.wrap.proofs.Integers.{fits_of, reread, sub_cases}
 use Rattle.scale.specs.Division.{code_for, codes, place_of}

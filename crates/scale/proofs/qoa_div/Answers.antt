@@ -1,6 +1,6 @@
 -- `scale::qoa_div` meets its contract. The shift leaves 16 bits, so the two signs cannot take the sum out of range.
 -- Assumes nothing.
-use Rattle.std.proofs.Common.{◌≡◌, ℕ, zero, suc, ◌+◌, ◌^◌, ◌≤◌, ℤ, pos, negsuc, ◌+ℤ◌, ◌*ℤ◌, nat_abs, sym, ap, ◌∙◌, ap₂, zero-le, le_trans, le_refl, add-le-add, lit<, to_z-of_z, w32, to_z, rules}
+use Rattle.std.proofs.Common.{◌≡◌, ℕ, zero, suc, ◌+◌, ◌^◌, ◌≤◌, ℤ, pos, negsuc, ◌+ℤ◌, ◌*ℤ◌, nat_abs, sym, ap, ◌∙◌, ap₂, zero-le, le_trans, le_refl, add-le-add, lit<, to_z-of_z, w32, to_z}
 use lib.Signed.{shr_z}
 use Rattle.wrap.specs.Wrap.{low32, wrap32}
 use Rattle.wrap.proofs.Integers.{abs_add, abs_fits, abs_shift, abs_sub, fits_abs, fits_of, reread, shift_back}

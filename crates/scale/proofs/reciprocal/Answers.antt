@@ -1,7 +1,6 @@
 -- `scale::reciprocal` meets its contract: the table is computed once, at all of its places.
 -- Assumes nothing.
 use Rattle.std.proofs.Common.{pos, ◌∙◌, to_z-of_z, w32, rules}
-use Rattle.wrap.proofs.Integers.{fits_of}
 use Rattle.scale.specs.Tables.{reciprocal_of, factor_of, factors}
 use Rattle.scale.proofs.Table.{entry}
 use Rattle.scale.proofs.reciprocal.Goals as goal

@@ -18,10 +18,13 @@ residual-is c = returned w32 c.residual-v.result c.residual-v.type_inv c.residua
 pub outcome-requires : goal.outcome-requires
 unfolding value_tried code_tried
 outcome-requires c =
-    let code = ap (λ (v : ℤ). code_for (divided_by v c.args.sf)) (residual-is (goal.at.outcome-requires c).After-residual-v) in record { weights_within = (c.requires.weights_within.0, c.requires.weights_within.1); code_value = (
+    let code = ap (λ (v : ℤ). code_for (divided_by v c.args.sf)) (residual-is (goal.at.outcome-requires c).After-residual-v) in record {
+      weights_within = (c.requires.weights_within.0, c.requires.weights_within.1);
+      code_value = (
         c.quick_code-code.ensures ∙ code,
         returned w32 c.quick_value-value.result c.quick_value-value.type_inv (c.quick_value-value.ensures ∙ ap (at (row_of c.args.sf)) code),
-      ) }
+      );
+    }
 
 pub returns : goal.returns
 returns c =

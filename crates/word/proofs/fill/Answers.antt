@@ -1,6 +1,5 @@
 -- `word::fill` meets its contract: nothing is shifted out. Assumes nothing.
 use Prim.Native.Nat.{◌+◌, ◌*◌, ◌-◌}
-use borrow.Author.Rules.{rules}
 use native.Mathlib.Omega.{arith}
 use lib.Pow.{shl_exact}
 use Rattle.word.specs.Word.{filled}

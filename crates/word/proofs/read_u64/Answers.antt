@@ -1,5 +1,4 @@
 -- `word::read_u64` meets its contract: two halves make the number. Assumes nothing.
-use borrow.Author.Rules.{rules}
 use mathlib.Core.Path.{◌∙◌, sym}
 use native.Mathlib.Omega.{arith}
 use Rattle.word.proofs.BytesLaws.{be_join}

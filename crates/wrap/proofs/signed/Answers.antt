@@ -1,6 +1,5 @@
 -- `wrap::signed` meets its contract. Bits of the upper half are one modulus lower as a signed number.
 -- Assumes nothing.
-use borrow.Author.Rules.{rules}
 use mathlib.Core.Path.{◌≡◌}
 use Prim.Native.Nat.{◌^◌}
 use lib.Dec.{lit≤}

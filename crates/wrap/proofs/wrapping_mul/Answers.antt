@@ -1,6 +1,5 @@
 -- `wrap::wrapping_mul` meets its contract: the low bits of a product are those of the product of the low bits.
 -- Assumes nothing.
-use borrow.Author.Rules.{rules}
 use mathlib.Core.Path.{ap, ap₂, sym, ◌∙◌}
 use Prim.Native.Nat.{ℕ, ◌*◌, ◌%◌, ◌^◌}
 use native.Mathlib.Nat.{lt_of_le_of_lt, mul-le-mul, le-pred_of_lt}

@@ -1,6 +1,6 @@
 -- `scale::place` meets its contract: the machine's place of the sum is that of the number that its bits read.
 -- Assumes nothing.
-use Rattle.std.proofs.Common.{◌≡◌, ℕ, ◌+◌, ◌/◌, ◌^◌, min, ℤ, pos, ◌+ℤ◌, ◌*ℤ◌, sym, ap, ◌∙◌, ap₂, lit<, to_z-of_z, w32, to_z, rules}
+use Rattle.std.proofs.Common.{◌≡◌, ℕ, ◌+◌, ◌/◌, ◌^◌, min, ℤ, pos, ◌+ℤ◌, ◌*ℤ◌, sym, ap, ◌∙◌, ap₂, lit<, to_z-of_z, w32, to_z}
 use lib.Signed.{shr_z}
 use Rattle.wrap.specs.Wrap.{low32, wrap32}
 use Rattle.wrap.proofs.Modulo.{add_low, modulo_pos}

@@ -1,6 +1,6 @@
 -- `scale::quick_code` meets its contract, by the law that the code at a residual's place is that of its quotient.
 -- Assumes nothing.
-use Rattle.std.proofs.Common.{◌≡◌, ℕ, ◌+◌, ◌<◌, get_or, ℤ, pos, ap, ◌∙◌, ap₂, arith, to_z-of_z, w32, rules}
+use Rattle.std.proofs.Common.{◌≡◌, ℕ, ◌+◌, ◌<◌, get_or, ℤ, pos, ap, ◌∙◌, ap₂, arith, to_z-of_z, w32}
 use Rattle.wrap.proofs.Integers.{returned}
 use Rattle.scale.specs.Division.{shifted}
 use Rattle.scale.specs.Parts.{half_of, quick_place}

@@ -1,6 +1,6 @@
 -- `scale::quick_row` meets its contract. The invariant: the values below `i` are in place.
 -- Assumes nothing.
-use Rattle.std.proofs.Common.{◌≡◌, ℕ, ◌-◌, ◌<◌, length, get_or, ℤ, pos, sym, refl, ap, ◌∙◌, ap₂, arith, lit<, length-set, ext_get_or, to_z-of_z, w16, w32, SFits}
+use Rattle.std.proofs.Common.{◌≡◌, ℕ, ◌<◌, length, get_or, ℤ, pos, sym, refl, ap, ◌∙◌, ap₂, arith, lit<, length-set, ext_get_or, to_z-of_z, w16, w32, SFits}
 use Rattle.wrap.proofs.Elements.{placed}
 use Rattle.wrap.proofs.Integers.{fits_abs, reread, returned}
 use Rattle.scale.specs.Parts.{quick_codes, quick_row}

@@ -1,6 +1,6 @@
 -- `scale::quick_tab` meets its contract. The invariant: the rows below `sf` are in place.
 -- Assumes nothing.
-use Rattle.std.proofs.Common.{◌-◌, ◌<◌, List, [], length, get_or, ℤ, sym, refl, ap, ◌∙◌, arith, length-set, ext_get_or}
+use Rattle.std.proofs.Common.{◌<◌, List, [], length, get_or, ℤ, sym, refl, ap, ◌∙◌, arith, length-set, ext_get_or}
 use Rattle.wrap.proofs.Elements.{placed}
 use Rattle.scale.specs.Parts.{quick_row, quick_tab}
 use Rattle.scale.proofs.Rules.{tab_row}

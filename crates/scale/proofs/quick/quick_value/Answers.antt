@@ -1,6 +1,6 @@
 -- `scale::quick_value` meets its contract: what stands at the place in a half stands at their sum in the row, and is the quotient's table value.
 -- Assumes nothing.
-use Rattle.std.proofs.Common.{◌≡◌, ℕ, ◌+◌, ◌-◌, ◌<◌, ◌≤◌, List, length, get_or, take, drop, ℤ, pos, ap, ◌∙◌, ap₂, arith, lit≤, to_z-of_z, w16, w32, SFits, rules}
+use Rattle.std.proofs.Common.{◌≡◌, ℕ, ◌+◌, ◌-◌, ◌<◌, ◌≤◌, List, length, get_or, take, drop, ℤ, pos, ap, ◌∙◌, ap₂, arith, lit≤, to_z-of_z, w16, w32, SFits}
 use Rattle.wrap.proofs.Integers.{fits_of, returned, widen_back, widen_fits}
 use Rattle.scale.specs.Division.{shifted}
 use Rattle.scale.specs.Parts.{half_of, quick_place}

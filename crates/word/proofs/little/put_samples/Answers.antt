@@ -1,10 +1,8 @@
 -- `word::little::put_samples` meets its contract. The invariant: the bytes of the samples passed, and then out as it was. Assumes nothing.
 use mathlib.Core.Path.{◌≡◌, refl, ap, ◌∙◌}
-use Prim.Native.Nat.{◌-◌}
 use native.Mathlib.Omega.{arith}
-use borrow.Author.Rules.{rules}
 use lib.IntN.{pos}
-use lib.ListN.{length, get_or, length-set}
+use lib.ListN.{get_or, length-set}
 use mir.Syntax.{w16}
 use mir.Facts.{to_z-of_z}
 use borrow.Author.Rules.{sfits_of}

@@ -1,7 +1,7 @@
 -- `word::little::read_le` meets its contract. The loop's invariant: `word` is the number of the last `i` bytes, and has no more than their bits.
 -- The measure is what is left of the bytes. Assumes nothing.
 use mathlib.Core.Path.{◌≡◌, refl, sym}
-use Prim.Native.Nat.{◌+◌, ◌*◌, ◌-◌, ◌<◌}
+use Prim.Native.Nat.{◌+◌, ◌*◌, ◌-◌}
 use native.Mathlib.Nat.{lt_of_lt_of_le}
 use native.Mathlib.Omega.{arith}
 use lib.Dec.{lit<}

@@ -1,10 +1,8 @@
 -- `word::little::read_samples` meets its contract. The loop's invariant: the first `i` samples are stored. Assumes nothing.
 use mathlib.Core.Path.{◌≡◌, refl, ap, ◌∙◌}
-use Prim.Native.Nat.{◌-◌}
 use native.Mathlib.Nat.{mul-one, zero-add}
 use native.Mathlib.Numerals.{add-one}
 use native.Mathlib.Omega.{arith}
-use borrow.Author.Rules.{rules}
 use lib.ListN.{length}
 use mir.Syntax.{w16}
 use mir.Val.{to_z}
