@@ -22,7 +22,7 @@ for crate in $(bash "$root/tools/library/below.sh" state decoder); do
 done >"$repo/crates.txt"
 echo 'blocks staticlib: refusal state into frames decoder' >>"$repo/crates.txt"
 cp "$here/blocks.rt.txt" "$repo/crates/blocks/src/lib.rt"
-cp "$here/blocks_decode.antt.txt" "$repo/crates/blocks/proofs/blocks_decode/Proof.antt"
+cp "$here/blocks_decode.antt.txt" "$repo/crates/blocks/proofs/blocks_decode/Invariants.antt"
 (cd "$repo/crates/blocks" && rt lib) >"$out/blocks.log" 2>&1 || { cat "$out/blocks.log" >&2; exit 1; }
 
 rustc --edition 2021 -C opt-level=3 --crate-type rlib --crate-name qoaudio "$from" -o "$out/libqoaudio.rlib"
