@@ -24,7 +24,7 @@ use Rattle.file.specs.Walk.{frame_at, past_frame, rules_at, samples_of, walk_of,
 use Rattle.file.specs.Whole.{audio_of, body_for, cut_of, like_first, some_rules, tail_rules, whole_file}
 use Rattle.file.proofs.Frames.{frame_eight, header_same, whole_file_fit}
 use Rattle.file.proofs.Walks.{walk_step}
-use Rattle.file.proofs.Accepted.{HeadGood, head_good, quiet_head}
+use Rattle.file.proofs.Accepted.{HeadGood, head_good, quiet_head, same_frames}
 use Rattle.play.specs.Played.{Played, before, body_played, file_played, frames_played, nothing, number, only, too_large, unless_said}
 use Rattle.play.proofs.Terms.{FramesThen, Heard, Small, StopsLarge, channels_of, rate_of}
 use Rattle.play.proofs.Frames.{is_large, large_is}
@@ -100,10 +100,6 @@ file_refused b n = go (begun b)
 
 -- ---- silence is a cut of the grammar whose frames are small
 
--- frames stay frames under other names of their channels and rate
-each_frame : {c r c' r' : ℕ} (fs : List (List ℕ)) → c' ≡ c → r' ≡ r → Each (IsFrame c r) fs → Each (IsFrame c' r') fs
-each_frame fs channels rate is = rw (channels, rate) is
-
 module _ (b : List ℕ) (h : HeadGood b) (long : 8 ≤ length (drop 8 b)) where
   cut_from : (fs : List (List ℕ)) (t : List ℕ) → Each (IsFrame (channels_of b) (rate_of b)) fs → Each Small fs → joined fs t ≡ drop 8 b
       → Quiet (tail_rules (length t)) → (k : Cut) × IsCut k b × Each Small (k.first ∷ k.others)
@@ -115,7 +111,7 @@ module _ (b : List ℕ) (h : HeadGood b) (long : 8 ≤ length (drop 8 b)) where
     record {
       head_whole = length-take-le 8 b h.long;
       head_magic = be_take 4 8 b 0 (lit≤ tt) ∙ h.is_magic;
-      frames = each_frame (f ∷ fs) is.0.same_channels is.0.same_rate is;
+      frames = same_frames (f ∷ fs) is.0.same_channels is.0.same_rate is;
       tail_ok = nnot (tail_ok (length t) true) q.0;
       bytes = rw bytes (take-append-drop 8 b);
     },
