@@ -11,7 +11,7 @@ from=$(bash "$root/tools/oracle/source.sh")
 # Its files stand outside of this checkout, where rt would take them for its own.
 repo=${TMPDIR:-/tmp}/tromvask-leaves
 rm -rf "$repo/crates"
-mkdir -p "$repo/crates/leaves/src"
+mkdir -p "$out" "$repo/crates/leaves/src"
 for crate in $(bash "$root/tools/library/below.sh" lms scale trial); do
     mkdir -p "$repo/crates/$crate"
     for part in src specs proofs; do [ ! -d "$root/crates/$crate/$part" ] || cp -r "$root/crates/$crate/$part" "$repo/crates/$crate/"; done
