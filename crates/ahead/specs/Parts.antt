@@ -1,15 +1,8 @@
 -- The predictor of a decoding loop, and what its weights gain. Assumes nothing.
 use Rattle.std.specs.Prelude.{ℕ, ◌^◌, ◌≤◌, cond, List, [], ◌∷◌, ℤ, nat_abs, neg_ℤ, pos, ◌+ℤ◌}
 use Rattle.std.specs.Int.Signed.{lt_z, shr_z}
-use Rattle.wrap.specs.Wrap.{low32}
 use Rattle.lms.specs.Predictor.{at}
-use Rattle.ahead.specs.declared.Ahead.{Ahead}
 use Rattle.lms.specs.declared.QoaLms.{QoaLms}
-use Rattle.lms.specs.Parts.{older_dot}
-
--- a predictor, with the low bits of the sum of its three older products
-unfoldable pub ahead_of : QoaLms → Ahead
-ahead_of lms = record { lms = lms; older = low32 (older_dot lms.weights lms.history) }
 
 -- what a weight gains by a table value: a sixteenth of it, rounded down, and the negative of that where its history is negative
 abbrev pub gains_of : ℤ → List ℤ

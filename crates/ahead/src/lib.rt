@@ -3,9 +3,10 @@
 // The predictor of a decoding loop: it holds the sum of its older products ahead, and its weights gain by numbers from memory.
 ghost use Rattle.std.specs.Prelude.{◌≡◌, ◌≤◌, ◌^◌, pos, negsuc, nat_abs, ◌+ℤ◌};
 ghost use Rattle.std.specs.Int.Signed.{lt_z};
+ghost use Rattle.wrap.specs.Wrap.{low32};
 ghost use Rattle.lms.specs.Predictor.{clamp16, pick, predicted};
-ghost use Rattle.ahead.specs.Parts.{ahead_of, gained, gains_of, moved_by, side_of, SmallGains};
-ghost use Rattle.lms.specs.Parts.{WeightsWithin};
+ghost use Rattle.ahead.specs.Parts.{gained, gains_of, moved_by, side_of, SmallGains};
+ghost use Rattle.lms.specs.Parts.{older_dot, WeightsWithin};
 
 use lms::{QoaLms, add_newest, is_short, older_dot};
 
@@ -14,6 +15,7 @@ use lms::{QoaLms, add_newest, is_short, older_dot};
 pub struct Ahead {
     pub lms: QoaLms,
     pub older: u32,
+    pub ghost ahead: { older ≡ low32 (older_dot lms.weights lms.history) },
 }
 
 // What a weight gains by a table value: a sixteenth of it, and the negative of that for a history below zero.
@@ -21,23 +23,23 @@ pub fn gains(residual: i32) -> [i32; 2]
     ensures { result ≡ gains_of residual }
 {
     let step = residual >> 4;
-    [step, 0 - step]
+    [step, -step]
 }
 
-// Which of the two is a history number's.
+// Which of the two is a history number's. kept: a number by a test, since it is a place in memory.
 fn side(history: i32) -> usize
     ensures { result ≡ side_of history }
 {
     if history < 0 { 1 } else { 0 }
 }
 
-// A weight after its gain: what `lms::update` makes of it, by a number from memory in place of a test.
+// A weight after its gain: what `lms::update` makes of it, by a number from memory in place of a test. kept: that gains are small is a
+// clause: it follows for all eight at once where they are made (`GainsOf` in slice), and a type would say it of each.
 fn gain(weight: i32, history: i32, gains: &[i32; 2]) -> i32
     requires { (nat_abs weight ≤ 2 ^ 30) × SmallGains gains.now }
     ensures { result ≡ gained weight history gains.now }
 {
-    let place = side(history);
-    weight + gains[place]
+    weight + gains[side(history)]
 }
 
 // What `lms::update` makes, by the gains of the table value.
@@ -45,40 +47,37 @@ fn moved_by(lms: QoaLms, sample: i32, gains: &[i32; 2]) -> QoaLms
     requires { (WeightsWithin (2 ^ 30) lms) × SmallGains gains.now }
     ensures { result ≡ moved_by lms sample gains.now }
 {
-    let history = lms.history;
-    let weights = lms.weights;
+    let QoaLms {
+        history: h,
+        weights: w,
+    } = lms;
     QoaLms {
-        history: [history[1], history[2], history[3], sample],
+        history: [h[1], h[2], h[3], sample],
+        // kept: written out, as in `lms::update`: the decoder's innermost code
         weights: [
-            gain(weights[0], history[0], gains),
-            gain(weights[1], history[1], gains),
-            gain(weights[2], history[2], gains),
-            gain(weights[3], history[3], gains),
+            gain(w[0], h[0], gains),
+            gain(w[1], h[1], gains),
+            gain(w[2], h[2], gains),
+            gain(w[3], h[3], gains),
         ],
     }
 }
 
 // The predictor, made ready for a loop.
 pub fn ready(lms: QoaLms) -> Ahead
-    ensures { result ≡ ahead_of lms }
+    ensures { result.lms ≡ lms }
 {
-    let history = lms.history;
-    let weights = lms.weights;
     Ahead {
         lms,
-        older: older_dot(weights, history),
+        older: older_dot(lms.weights, lms.history),
     }
 }
 
 // What it expects next.
 fn expect(a: Ahead) -> i32
-    requires { a ≡ ahead_of a.lms }
     ensures { result ≡ predicted a.lms }
 {
-    let lms = a.lms;
-    let history = lms.history;
-    let weights = lms.weights;
-    add_newest(a.older, weights[3], history[3]) >> 13
+    add_newest(a.older, a.lms.weights[3], a.lms.history[3]) >> 13
 }
 
 // The end of the 16-bit range that is on a number's side of zero.
@@ -90,7 +89,7 @@ fn end_of(x: i32) -> i32
 
 // The prediction plus a table value, not clamped.
 pub fn sum_ahead(a: Ahead, residual: i32) -> i32
-    requires { (a ≡ ahead_of a.lms) × (nat_abs residual ≤ 14336) }
+    requires { nat_abs residual ≤ 14336 }
     ensures { result ≡ predicted a.lms +ℤ residual }
 {
     expect(a) + residual
@@ -98,7 +97,7 @@ pub fn sum_ahead(a: Ahead, residual: i32) -> i32
 
 // The same, clamped to 16 bits. A sum that is too far out has the prediction's sign, which is known before the sum.
 pub fn clamped_ahead(a: Ahead, residual: i32) -> i32
-    requires { (a ≡ ahead_of a.lms) × (nat_abs residual ≤ 14336) }
+    requires { nat_abs residual ≤ 14336 }
     ensures { result ≡ clamp16 (predicted a.lms +ℤ residual) }
 {
     let sum = sum_ahead(a, residual);
@@ -107,10 +106,9 @@ pub fn clamped_ahead(a: Ahead, residual: i32) -> i32
 }
 
 // The predictor of a loop after a sample whose table value has these gains.
-pub fn advance(a: Ahead, sample: i32, gains: &[i32; 2]) -> Ahead
-    requires { (WeightsWithin (2 ^ 30) a.lms) × SmallGains gains.now }
-    ensures { result ≡ ahead_of (moved_by a.lms sample gains.now) }
+pub fn advance(lms: QoaLms, sample: i32, gains: &[i32; 2]) -> Ahead
+    requires { (WeightsWithin (2 ^ 30) lms) × SmallGains gains.now }
+    ensures { result.lms ≡ moved_by lms sample gains.now }
 {
-    let lms = a.lms;
     ready(moved_by(lms, sample, gains))
 }

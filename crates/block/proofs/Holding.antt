@@ -3,10 +3,10 @@ use Prim.Native.Nat.{ℕ, ◌+◌, ◌-◌, ◌≤◌, ◌<◌}
 use mathlib.Core.Bool.{Bool, true, false, cond}
 use mathlib.Core.List.{List}
 use mathlib.Core.Path.{◌≡◌, refl, sym, ap, ◌∙◌}
-use borrow.Author.Tests.{ltb-false, ltb-true}
+use borrow.Author.Tests.{le-ltb, lt-leb, lt-ltb, ltb-false, ltb-true}
 use native.Mathlib.Nat.{mul-one}
 use native.Mathlib.Omega.{arith}
-use lib.Dec.{lit<, ltb}
+use lib.Dec.{leb, lit<, ltb}
 use lib.IntN.{ℤ, pos}
 use lib.ListN.{get_or, length, get_or-eq_default}
 use Rattle.wrap.specs.Wrap.{low16}
@@ -46,6 +46,14 @@ held_bytes states channels j = by (ltb j channels) refl
 -- the sample that the code holds at a place
 abbrev pub sample_held : List ℤ → ℕ → ℕ → ℕ → ℤ
 sample_held pending next end i = cond (ltb i next) (pos 0) (cond (ltb i end) (get_or pending i (pos 0)) (pos 0))
+
+-- the same by the code's two tests
+module _ (x : ℤ) (next end i : ℕ) (used : Bool) where
+  pub held_from : next ≤ i → used ≡ ltb i end → cond used x (pos 0) ≡ cond (ltb i next) (pos 0) (cond (ltb i end) x (pos 0))
+  held_from h e = simp (e, le-ltb i next h)
+
+  pub held_below : i < next → used ≡ leb next i → cond used x (pos 0) ≡ cond (ltb i next) (pos 0) (cond (ltb i end) x (pos 0))
+  held_below h e = simp (e, lt-leb next i h, lt-ltb i next h)
 
 held_sample : (d : QoaDecoder) (i : ℕ) → sample_held d.pending d.next d.end i ≡ pending_at (view d) i
 unfolding pending_at view

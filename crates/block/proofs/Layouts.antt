@@ -1,13 +1,15 @@
 -- The parts of a block, laid over it field by field, and their lengths. Assumes nothing.
-use Prim.Native.Nat.{ℕ, ◌+◌, ◌*◌, ◌≤◌}
-use mathlib.Core.Bool.{Bool, cond}
-use mathlib.Core.Path.{◌≡◌, ap}
-use mathlib.Core.List.{List, ◌++◌, append_assoc}
+use Prim.Native.Nat.{ℕ, ◌+◌, ◌*◌, ◌/◌, ◌%◌, ◌^◌, ◌≤◌}
+use mathlib.Core.Bool.{Bool, true, false, cond}
+use mir.Val.{bool_byte}
+use mathlib.Core.Path.{◌≡◌, refl, ap}
+use mathlib.Core.List.{List, [], ◌∷◌, ◌++◌, append_assoc}
 use native.Mathlib.Omega.{arith}
 use lib.IntN.{ℤ}
 use lib.ListN.{length, length-append}
 use Rattle.wrap.specs.Wrap.{low16, low32}
-use Rattle.word.specs.Bytes.{bytes_of}
+use Rattle.word.specs.Bytes.{byte_of, bytes_of}
+use Rattle.word.specs.Table.{table}
 use Rattle.word.proofs.BytesLaws.{length_bytes}
 use Rattle.lms.specs.Predictor.{at}
 use Rattle.lms.specs.declared.QoaLms.{QoaLms}
@@ -120,6 +122,23 @@ rest_over out remaining next end given room =
       then_put out 25 d 31 (omega arith) 1 (cond given 1 0) (omega arith),
     )
     (ap (λ (l : List ℕ). laid_over out 25 (good l)) (simp append_assoc))
+
+-- a flag's byte
+pub flag_byte : (given : Bool) → bool_byte given ≡ cond given 1 0
+flag_byte true = refl
+flag_byte false = refl
+
+-- of a number only the low 16 bits count
+low_two : (n : ℕ) → bytes_of 2 (n % 2 ^ 16) ≡ bytes_of 2 n
+unfolding bytes_of byte_of table
+low_two n =
+    let high : n % 2 ^ 16 / 2 ^ 8 % 256 ≡ n / 2 ^ 8 % 256 = omega arith in
+    let low : n % 2 ^ 16 / 2 ^ 0 % 256 ≡ n / 2 ^ 0 % 256 = omega arith in
+    λ i. high i ∷ low i ∷ []
+
+pub rest_low : (remaining next end : ℕ) (given : Bool) → rest_bytes remaining (next % 2 ^ 16) (end % 2 ^ 16) given ≡ rest_bytes remaining next end given
+unfolding rest_bytes
+rest_low remaining next end given = rw (low_two next, low_two end)
 
 pub length_rest : (remaining next end : ℕ) (given : Bool) → length (rest_bytes remaining next end given) ≡ 7
 unfolding rest_bytes

@@ -6,9 +6,10 @@ ghost use Rattle.encoder.specs.Encoder.{encoder_view};
 ghost use Rattle.block.specs.EncoderBlock.{encoder_bytes, encoder_size};
 ghost use Rattle.block.specs.Parts.{EncoderRead, readable_encoder};
 
-use crate::kept_predictors::{PREDICTOR_SIZE, read_predictors, write_predictors, zero_predictor};
+use crate::kept_predictors::{PREDICTOR_SIZE, read_predictors, write_predictors};
 use encoder::QoaEncoder;
 use format::frame::QOA_MAX_CHANNELS;
+use word::BigEndian;
 
 // Where the fields stand, in their order.
 const RATE_AT: usize = 1;
@@ -19,53 +20,27 @@ const PREDICTORS_AT: usize = 9;
 
 pub const ENCODER_SIZE: usize = PREDICTORS_AT + PREDICTOR_SIZE * QOA_MAX_CHANNELS;
 
-// A state out of a block: whether there is one, and the state.
-#[derive(Clone, Copy)]
-pub struct BlockEncoder {
-    pub readable: bool,
-    pub state: QoaEncoder,
-}
-
+// The size of a state, and no more channels than one can have.
 fn is_readable(block: &[u8]) -> bool
     ensures { result ≡ readable_encoder block.now }
 {
-    if block.len() != ENCODER_SIZE {
-        return false;
-    }
-    block[0] as usize <= QOA_MAX_CHANNELS
+    block.len() == ENCODER_SIZE && block[0] as usize <= QOA_MAX_CHANNELS
 }
 
-// No state: all zero.
-fn no_encoder() -> QoaEncoder {
-    let zero = zero_predictor();
-    QoaEncoder {
-        channels: 0,
-        rate: 0,
-        total: 0,
-        lms: [zero; QOA_MAX_CHANNELS],
-    }
-}
-
-// A state, where the block has the size of one and no more channels than one can have.
-pub fn read_encoder(block: &[u8]) -> BlockEncoder
+// The state of a block that is readable.
+pub fn read_encoder(block: &[u8]) -> Option<QoaEncoder>
     ensures { EncoderRead block.now result }
 {
     if !is_readable(block) {
-        return BlockEncoder {
-            readable: false,
-            state: no_encoder(),
-        };
+        return None;
     }
     let channels = block[0];
-    BlockEncoder {
-        readable: true,
-        state: QoaEncoder {
-            channels,
-            rate: word::read_u32(block, RATE_AT),
-            total: word::read_u32(block, TOTAL_AT),
-            lms: read_predictors(block, PREDICTORS_AT, channels as usize),
-        },
-    }
+    Some(QoaEncoder {
+        channels,
+        rate: u32::read_be(block, RATE_AT),
+        total: u32::read_be(block, TOTAL_AT),
+        lms: read_predictors(block, PREDICTORS_AT, channels as usize),
+    })
 }
 
 // Stores a state at the start of lent memory.
@@ -73,9 +48,8 @@ pub fn write_encoder(block: &mut [u8], e: QoaEncoder)
     requires { encoder_size ≤ length block.old }
     ensures { block.new ≡ laid_over block.old 0 (good (encoder_bytes (encoder_view e))) }
 {
-    let states = e.lms;
-    word::write_be(block, 0, e.channels as u64, 1);
-    word::write_u32(block, RATE_AT, e.rate);
-    word::write_u32(block, TOTAL_AT, e.total);
-    write_predictors(block, PREDICTORS_AT, states, e.channels as usize);
+    e.channels.write_be(block, 0);
+    e.rate.write_be(block, RATE_AT);
+    e.total.write_be(block, TOTAL_AT);
+    write_predictors(block, PREDICTORS_AT, e.lms, e.channels as usize);
 }

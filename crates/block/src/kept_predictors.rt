@@ -1,41 +1,26 @@
 // Predictors in a block: for each channel four histories and four weights, each of 32 bits.
 ghost use Rattle.std.specs.Prelude.{◌≡◌, cond, ◌+◌, ◌*◌, ◌≤◌, length};
-ghost use Rattle.std.specs.Int.{w32};
-ghost use mir.Val.{to_z};
-ghost use Rattle.word.specs.Bytes.{be32};
 ghost use Rattle.word.specs.Table.{table};
 ghost use Rattle.format.specs.Format.{max_channels};
 ghost use Rattle.format.specs.Predictor.{lms_of};
-ghost use Rattle.lms.specs.Predictor.{zero_lms};
 ghost use Rattle.refusal.specs.Rules.{good};
 ghost use Rattle.refusal.specs.Lent.{laid_over};
 ghost use Rattle.block.specs.Predictors.{four_bytes, four_in, predictor_bytes, predictor_in, predictors_bytes, predictors_in};
 
 use format::frame::QOA_MAX_CHANNELS;
-use lms::{QOA_LMS_LEN, QoaLms};
+use lms::{QOA_LMS_LEN, QoaLms, ZERO_LMS};
+use word::BigEndian;
+use wrap::TwosComplement;
 
 // The bytes of one channel's.
 pub const PREDICTOR_SIZE: usize = 8 * QOA_LMS_LEN;
-
-// The signed number at a place.
-fn signed_in(block: &[u8], at: usize) -> i32
-    requires { at + 4 ≤ length block.now }
-    ensures { result ≡ to_z w32 (be32 block.now at) }
-{
-    wrap::signed(word::read_u32(block, at))
-}
 
 // Four numbers from a place on.
 fn four_in(block: &[u8], at: usize) -> [i32; QOA_LMS_LEN]
     requires { at + 16 ≤ length block.now }
     ensures { result ≡ four_in block.now at }
 {
-    [
-        signed_in(block, at),
-        signed_in(block, at + 4),
-        signed_in(block, at + 8),
-        signed_in(block, at + 12),
-    ]
+    std::array::from_fn(|i| i32::signed(u32::read_be(block, at + 4 * i)))
 }
 
 // One channel's predictor.
@@ -48,26 +33,14 @@ fn read_predictor(block: &[u8], at: usize) -> QoaLms
     QoaLms { history, weights }
 }
 
-// No predictor: all zero.
-pub fn zero_predictor() -> QoaLms
-    ensures { result ≡ zero_lms }
-{
-    QoaLms {
-        history: [0; QOA_LMS_LEN],
-        weights: [0; QOA_LMS_LEN],
-    }
-}
-
 // The predictors of so many channels, from a place on; the other channels' are zero.
 pub fn read_predictors(block: &[u8], at: usize, channels: usize) -> [QoaLms; QOA_MAX_CHANNELS]
     requires { (channels ≤ max_channels) × (at + 32 * channels ≤ length block.now) }
     ensures { table channels (lms_of result) ≡ predictors_in block.now at channels }
 {
-    let zero = zero_predictor();
-    let mut all = [zero; QOA_MAX_CHANNELS];
-    for j in 0..channels {
-        let lms = read_predictor(block, at + PREDICTOR_SIZE * j);
-        all[j] = lms;
+    let mut all = [ZERO_LMS; QOA_MAX_CHANNELS];
+    for (j, lms) in all[..channels].iter_mut().enumerate() {
+        *lms = read_predictor(block, at + PREDICTOR_SIZE * j);
     }
     all
 }
@@ -77,10 +50,11 @@ fn write_four(block: &mut [u8], at: usize, xs: [i32; QOA_LMS_LEN])
     requires { at + 16 ≤ length block.old }
     ensures { block.new ≡ laid_over block.old at (good (four_bytes xs)) }
 {
-    word::write_u32(block, at, wrap::pattern(xs[0]));
-    word::write_u32(block, at + 4, wrap::pattern(xs[1]));
-    word::write_u32(block, at + 8, wrap::pattern(xs[2]));
-    word::write_u32(block, at + 12, wrap::pattern(xs[3]));
+    let [a, b, c, d] = xs.map(i32::pattern);
+    a.write_be(block, at);
+    b.write_be(block, at + 4);
+    c.write_be(block, at + 8);
+    d.write_be(block, at + 12);
 }
 
 // Stores one channel's predictor.
@@ -88,20 +62,20 @@ fn write_predictor(block: &mut [u8], at: usize, lms: QoaLms)
     requires { at + 32 ≤ length block.old }
     ensures { block.new ≡ laid_over block.old at (good (predictor_bytes lms)) }
 {
-    let history = lms.history;
-    let weights = lms.weights;
+    let QoaLms { history, weights } = lms;
     write_four(block, at, history);
     write_four(block, at + 16, weights);
 }
 
-// A channel's predictor where the channel is used, else none.
-fn held(lms: QoaLms, used: bool) -> QoaLms
-    ensures { result ≡ cond used lms zero_lms }
+// What is used, else what stands for none.
+pub fn held<T: Copy>(x: T, used: bool, none: T) -> T
+    ensures { result ≡ cond used x none }
 {
-    if used { lms } else { zero_predictor() }
+    if used { x } else { none }
 }
 
 // Stores the predictors of all channels, 0 for those that are not used.
+// kept: a loop beside that of the pending samples, since one for both takes a closure with clauses and is longer.
 pub fn write_predictors(
     block: &mut [u8],
     at: usize,
@@ -111,8 +85,11 @@ pub fn write_predictors(
     requires { at + 32 * max_channels ≤ length block.old }
     ensures { block.new ≡ laid_over block.old at (good (predictors_bytes (table channels (lms_of states)))) }
 {
-    for j in 0..QOA_MAX_CHANNELS {
-        let lms = states[j];
-        write_predictor(block, at + PREDICTOR_SIZE * j, held(lms, j < channels));
+    for (j, lms) in states.iter().enumerate() {
+        write_predictor(
+            block,
+            at + PREDICTOR_SIZE * j,
+            held(*lms, j < channels, ZERO_LMS),
+        );
     }
 }

@@ -5,5 +5,5 @@ pub mod decoding;
 pub mod encoding;
 pub mod kept_predictors;
 
-pub use decoding::{BlockDecoder, DECODER_SIZE, read_decoder, write_decoder};
-pub use encoding::{BlockEncoder, ENCODER_SIZE, read_encoder, write_encoder};
+pub use decoding::{DECODER_SIZE, read_decoder, write_decoder};
+pub use encoding::{ENCODER_SIZE, read_encoder, write_encoder};

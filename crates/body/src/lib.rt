@@ -1,11 +1,10 @@
 #![tactic(auto)]
 
 // A frame's body, stored in lent bytes: the predictor states, then the slice groups, channels in turn.
-ghost use Rattle.std.specs.Prelude.{◌≡◌, ℕ, ◌+◌, ◌*◌, ◌≤◌, ◌<◌, ◌^◌, min, length};
+ghost use Rattle.std.specs.Prelude.{◌≡◌, ℕ, ◌+◌, ◌*◌, ◌≤◌, ◌<◌, ◌^◌, length};
 ghost use Rattle.word.specs.Bytes.{bytes_of};
 ghost use Rattle.word.specs.Parts.{written};
 ghost use Rattle.lms.specs.Parts.{WeightsWithin};
-ghost use Rattle.scale.specs.Parts.{quick_codes, quick_tab, dequant_tab, reciprocal_tab};
 ghost use Rattle.format.specs.Format.{frame_len, max_channels, slice_len, slices_of};
 ghost use Rattle.format.specs.Predictor.{lms_of};
 ghost use Rattle.search.specs.Search.{encoded_slice, strided};
@@ -17,24 +16,22 @@ ghost use Rattle.body.specs.Laid.{laid, lms_bytes};
 use format::frame::{QOA_MAX_CHANNELS, QOA_SLICE_LEN, slices_of};
 use lms::QoaLms;
 use predictors::write_lms;
+use scale::QuickTables;
+use word::BigEndian;
 
 // Stores the predictors of the used channels from a place on.
 pub fn put_states(states: [QoaLms; QOA_MAX_CHANNELS], channels: usize, out: &mut [u8], at: usize)
     requires { (channels ≤ max_channels) × (at + 16 * channels ≤ length out.old) }
     ensures { out.new ≡ laid_over out.old at (good (laid channels (λ j. lms_bytes (lms_of states j)))) }
 {
-    for j in 0..channels {
-        let lms = states[j];
-        write_lms(out, at + 16 * j, lms);
+    for (j, lms) in states[..channels].iter().enumerate() {
+        write_lms(out, at + 16 * j, *lms);
     }
 }
 
 // Stores slice group `g`, of `count` samples per channel, and hands back the predictors after it.
 fn put_group(
-    tab: &[[i32; 8]; 16],
-    quick: &[[i16; 34]; 16],
-    reciprocals: &[i32; 16],
-    coding: &[u8; 34],
+    tables: &QuickTables,
     states: [QoaLms; QOA_MAX_CHANNELS],
     channels: usize,
     samples: &[i16],
@@ -43,8 +40,6 @@ fn put_group(
     out: &mut [u8],
     at: usize,
 ) -> [QoaLms; QOA_MAX_CHANNELS]
-    requires table { tab.now ≡ dequant_tab }
-    requires quick { (quick.now ≡ quick_tab) × (reciprocals.now ≡ reciprocal_tab) × (coding.now ≡ quick_codes) }
     requires small { (channels ≤ max_channels) × (0 < count) × (count ≤ slice_len) }
     requires whole { start + count * channels ≤ length samples.now }
     requires room { at + 8 * channels ≤ length out.old }
@@ -53,35 +48,15 @@ fn put_group(
     ensures bytes { out.new ≡ laid_over out.old at (good (laid channels (λ j. bytes_of 8 (encoded_slice (lms_of states j) (strided count samples.now (start + j) channels)).word))) }
 {
     let mut next = states;
+    // kept: j says where the channel's samples and its word stand, two places beside its predictor.
     for j in 0..channels {
         let lms = next[j];
-        let slice = search::encode_slice(
-            tab,
-            quick,
-            reciprocals,
-            coding,
-            lms,
-            samples,
-            start + j,
-            channels,
-            count,
-        );
+        let slice = search::encode_slice(tables, lms, samples, start + j, channels, count);
         let after = slice.lms;
         next[j] = after;
-        word::write_u64(out, at + 8 * j, slice.word);
+        slice.word.write_be(out, at + 8 * j);
     }
     next
-}
-
-// How many samples of those left go into a slice.
-fn slice_len(left: usize) -> usize
-    ensures { result ≡ min slice_len left }
-{
-    if left < QOA_SLICE_LEN {
-        left
-    } else {
-        QOA_SLICE_LEN
-    }
 }
 
 // Stores all slice groups of `n` samples per channel, and hands back the predictors after them.
@@ -100,20 +75,15 @@ pub fn put_groups(
     ensures states { (j : ℕ) → j < channels → lms_of result j ≡ lms_before (lms_of states j) (strided n samples.now j channels) (slices_of n) }
     ensures bytes { out.new ≡ laid_over out.old at (good (laid (slices_of n) (λ g. laid channels (λ j. bytes_of 8 (slice_word (lms_of states j) (strided n samples.now j channels) g))))) }
 {
-    let tab = scale::dequant_tab();
-    let coding = scale::quick_codes();
-    let quick = scale::quick_tab(&tab, &coding);
-    let reciprocals = scale::reciprocals();
+    let tables = scale::quick_tables();
     let slices = slices_of(n);
     let mut next = states;
+    // kept: the number g says where the group's samples and its bytes stand.
     for g in 0..slices {
         let done = QOA_SLICE_LEN * g;
-        let count = slice_len(n - done);
+        let count = QOA_SLICE_LEN.min(n - done);
         let after = put_group(
-            &tab,
-            &quick,
-            &reciprocals,
-            &coding,
+            &tables,
             next,
             channels,
             samples,

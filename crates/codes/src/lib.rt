@@ -1,14 +1,14 @@
 #![tactic(auto)]
 
 // How an answer is one signed number for a C caller.
-ghost use Rattle.std.specs.Prelude.{◌≡◌, ◌<◌, ◌^◌, neg_ℤ, pos};
+ghost use Rattle.std.specs.Prelude.{◌≡◌, ◌<◌, ◌^◌, IfOk, neg_ℤ, pos};
 ghost use Rattle.refusal.specs.Rules.{refused};
-ghost use Rattle.refusal.specs.Refusals.{number_of};
+ghost use Rattle.refusal.specs.Refusals.{number_of, told};
 ghost use Rattle.encoder.specs.Calls.{refuses_14, told_encode};
 ghost use Rattle.oneshot.specs.Parts.{Small};
 ghost use Rattle.codes.specs.Codes.{coded, coded_encode};
 
-use encoder::EncodeAnswer;
+use encoder::EncodeRefusal;
 use refusal::Refusal;
 
 // Minus a number.
@@ -23,15 +23,18 @@ fn negated(n: usize) -> i64
 pub fn minus(refusal: Refusal) -> i64
     ensures { result ≡ coded (refused (number_of refusal)) }
 {
-    negated(refusal::number(refusal) as usize)
+    negated(u8::from(refusal) as usize)
 }
 
-// A count.
-pub fn count(n: usize) -> i64
-    requires { n < 2 ^ 63 }
-    ensures { result ≡ pos n }
+// A count, or minus the number of the refusal.
+pub fn told(answer: Result<usize, Refusal>) -> i64
+    requires { IfOk answer (λ n. n < 2 ^ 63) }
+    ensures { result ≡ coded (told answer) }
 {
-    n as i64
+    match answer {
+        Ok(n) => n as i64,
+        Err(why) => minus(why),
+    }
 }
 
 // Refusal 14, with the bytes that stand in the output and the channel.
@@ -43,13 +46,13 @@ fn wide(bytes: usize, channel: u8) -> i64
 }
 
 // What an encoding call answers.
-pub fn encoded(answer: EncodeAnswer) -> i64
+pub fn encoded(answer: Result<usize, EncodeRefusal>) -> i64
     requires { Small (told_encode answer) }
     ensures { result ≡ coded_encode (told_encode answer) }
 {
     match answer {
-        EncodeAnswer::Refused(r) => minus(r),
-        EncodeAnswer::Written(n) => count(n),
-        EncodeAnswer::WeightRange { count: n, channel } => wide(n, channel),
+        Ok(n) => told(Ok(n)),
+        Err(EncodeRefusal::Refused(why)) => told(Err(why)),
+        Err(EncodeRefusal::WeightRange { count, channel }) => wide(count, channel),
     }
 }

@@ -1,23 +1,17 @@
 -- The item step: pending samples before all else, then the first header, the samples of the frame, and the next frame. Assumes nothing.
-use Rattle.std.specs.Prelude.{ℕ, ◌≡◌, not, cond, List, [], ◌∷◌, ltb, ℤ, length}
-use Rattle.refusal.specs.Rules.{Answer, good, refused, Rule, ◌gives◌, after, first_of}
-use Rattle.refusal.specs.Refusals.{number_of}
+use Rattle.std.specs.Prelude.{ℕ, not, cond, List, [], ◌∷◌, ltb, length, Option, Some, None, Result}
+use Rattle.refusal.specs.Rules.{Rule, ◌gives◌}
+use Rattle.refusal.specs.declared.Done.{Done}
+use Rattle.refusal.specs.declared.Refusal.{Refusal}
 use Rattle.state.specs.View.{View, moved_to, none_pending, view, waiting, flagged}
 use Rattle.state.specs.States.{good_state}
 use Rattle.state.specs.declared.QoaDecoder.{QoaDecoder}
-use Rattle.into.specs.Left.{Leaves}
+use Rattle.into.specs.Left.{CallDone}
 use Rattle.into.specs.Into.{coming_at, groups_end, taken_from}
-use Rattle.frames.specs.Frames.{Found, a_frame, no_frame, enter_rules, entered_or, found_at}
+use Rattle.frames.specs.Frames.{enter_rules, entered_or, found_at}
 use Rattle.state.specs.declared.FrameFacts.{FrameFacts}
-use Rattle.decoder.specs.declared.NextItem.{NextItem}
 use Rattle.decoder.specs.declared.QoaItem.{QoaItem}
-use Rattle.decoder.specs.declared.QoaItem.TheVariants.{Header, Sample, End, Refused}
-
--- what is given
-pub data Item : Type 0 where
-  a_header : FrameFacts → Item
-  a_sample : ℤ → Item
-  no_item : Item
+use Rattle.decoder.specs.declared.QoaItem.TheVariants.{Header, Sample}
 
 -- which of the four it is
 pub data Turn : Type 0 where
@@ -37,14 +31,16 @@ turn_rules first_header bs v = []
 turn_rules from_group bs v = (ltb (length bs) (groups_end v 1) gives 5) ∷ []
 turn_rules from_next bs v = enter_rules bs v
 
-abbrev pub item_in : Found → Item
-item_in (a_frame f) = a_header f
-item_in no_frame = no_item
+-- the item in what is found
+abbrev pub item_in : Option FrameFacts → Option QoaItem
+item_in (Some f) = Some (Header f)
+item_in None = None
 
-abbrev pub turn_item : Turn → List ℕ → View → Item
-turn_item from_pending bs v = a_sample (coming_at bs v 0)
-turn_item first_header bs v = a_header v.frame
-turn_item from_group bs v = a_sample (coming_at bs v 0)
+-- what is given, or none at the end
+abbrev pub turn_item : Turn → List ℕ → View → Option QoaItem
+turn_item from_pending bs v = Some (Sample (coming_at bs v 0))
+turn_item first_header bs v = Some (Header v.frame)
+turn_item from_group bs v = Some (Sample (coming_at bs v 0))
 turn_item from_next bs v = item_in (found_at bs v)
 
 abbrev pub turn_after : Turn → List ℕ → View → View
@@ -58,20 +54,12 @@ turn_after from_next bs v = entered_or bs (settled v)
 unfoldable pub item_rules : List ℕ → View → List Rule
 item_rules bs v = (not (good_state v (length bs)) gives 8) ∷ turn_rules (turn_of v) bs v
 
-unfoldable pub item_of : List ℕ → View → Item
+unfoldable pub item_of : List ℕ → View → Option QoaItem
 item_of bs v = turn_item (turn_of v) bs v
 
 unfoldable pub item_after : List ℕ → View → View
 item_after bs v = turn_after (turn_of v) bs v
 
--- what the code's item tells
-abbrev pub told_item : QoaItem → Answer Item
-told_item (Header f) = good (a_header f)
-told_item (Sample x) = good (a_sample x)
-told_item End = good no_item
-told_item (Refused r) = refused (number_of r)
-
--- what the call promises: its item and its state
-pub record ItemDone (bs : List ℕ) (d : QoaDecoder) (r : NextItem) : Type 0 where
-  pub told : told_item r.item ≡ after (item_rules bs (view d)) (good (item_of bs (view d)))
-  pub left : Leaves (first_of (item_rules bs (view d))) d (item_after bs (view d)) r.state
+-- what the call promises: its answer and its state
+abbrev pub ItemDone : List ℕ → QoaDecoder → Done (Result (Option QoaItem) Refusal) QoaDecoder → Type 0
+ItemDone bs d r = CallDone (item_rules bs (view d)) (item_of bs (view d)) d (item_after bs (view d)) r

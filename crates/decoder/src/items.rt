@@ -3,28 +3,24 @@ ghost use Rattle.std.specs.Prelude.{◌≡◌, true, List, ℕ, ◌*◌, ◌≤�
 ghost use Rattle.format.specs.Format.{pending_len};
 ghost use Rattle.state.specs.View.{view};
 ghost use Rattle.state.specs.States.{good_state};
-ghost use Rattle.decoder.specs.declared.QoaItem.TheVariants.{Refused};
-ghost use Rattle.decoder.specs.Items.{ItemDone, first_header, from_group, from_next, from_pending, settled};
+ghost use Rattle.decoder.specs.Items.{ItemDone, first_header, from_group, from_next, from_pending, item_in, settled};
 ghost use Rattle.decoder.specs.Parts.{TurnDone};
 
 use crate::{NextItem, QoaItem};
 use format::frame::QOA_HEADER_SIZE;
-use frames::{FrameAnswer, enter_frame, has_read};
+use frames::{enter_frame, has_read};
 use into::{after_pending, decode_more};
-use refusal::Refusal;
-use state::QoaDecoder;
+use refusal::{Done, Refusal};
+use state::{FrameFacts, QoaDecoder};
 
 // The first of the pending samples.
 fn pending_item(d: QoaDecoder) -> NextItem
     requires { (d.next < d.end) × (d.end ≤ pending_len) }
     ensures { (bs : List ℕ) → TurnDone from_pending bs d result }
 {
-    let next = d.next;
-    let given = d.given;
-    let sample = d.pending[next];
-    NextItem {
-        item: QoaItem::Sample(sample),
-        state: after_pending(d, 1, given),
+    Done {
+        answer: Ok(Some(QoaItem::Sample(d.pending[d.next]))),
+        state: after_pending(d, 1, d.given),
     }
 }
 
@@ -32,31 +28,21 @@ fn pending_item(d: QoaDecoder) -> NextItem
 fn settle(d: QoaDecoder) -> QoaDecoder
     ensures { view result ≡ settled (view d) }
 {
-    let mut state = d;
-    state.next = 0;
-    state.end = 0;
-    state.given = true;
-    state
+    QoaDecoder {
+        next: 0,
+        end: 0,
+        given: true,
+        ..d
+    }
 }
 
 // The current frame's header, which was not given yet: all zero after a stream was opened.
 fn header_item(d: QoaDecoder) -> NextItem
     ensures { (bs : List ℕ) → TurnDone first_header bs d result }
 {
-    let frame = d.frame;
-    NextItem {
-        item: QoaItem::Header(frame),
+    Done {
+        answer: Ok(Some(QoaItem::Header(d.frame))),
         state: settle(d),
-    }
-}
-
-// A refusal hands back the state that it was given.
-fn refused_item(d: QoaDecoder, refusal: Refusal) -> NextItem
-    ensures { (result.item ≡ Refused refusal) × (result.state ≡ d) }
-{
-    NextItem {
-        item: QoaItem::Refused(refusal),
-        state: d,
     }
 }
 
@@ -65,19 +51,22 @@ fn group_item(d: QoaDecoder, bytes: &[u8]) -> NextItem
     requires { (good_state (view d) (length bytes.now) ≡ true) × (d.end ≤ d.next) × (0 < d.remaining) }
     ensures { TurnDone from_group bytes.now d result }
 {
-    let frame = d.frame;
-    let channels = frame.channels as usize;
-    let at = d.at;
-    if bytes.len() < at + 8 * channels {
-        return refused_item(d, Refusal::Truncated);
+    if bytes.len() < d.at + 8 * (d.frame.channels as usize) {
+        return Done::refused(Refusal::Truncated, d);
     }
     let mut one = [0i16; 1];
     let state = decode_more(d, bytes, &mut one, 1);
-    let sample = one[0];
-    NextItem {
-        item: QoaItem::Sample(sample),
+    Done {
+        answer: Ok(Some(QoaItem::Sample(one[0]))),
         state,
     }
+}
+
+// What is found at a place, as an item.
+fn item_in(found: Option<FrameFacts>) -> Option<QoaItem>
+    ensures { result ≡ item_in found }
+{
+    found.map(QoaItem::Header)
 }
 
 // The next frame's header, or the end.
@@ -85,33 +74,20 @@ fn frame_item(d: QoaDecoder, bytes: &[u8]) -> NextItem
     requires { d.at ≤ length bytes.now }
     ensures { TurnDone from_next bytes.now d result }
 {
-    let at = d.at;
-    let left = bytes.len() - at;
+    let left = bytes.len() - d.at;
     if left < QOA_HEADER_SIZE {
         if !format::tail_ok(left, has_read(d)) {
-            return refused_item(d, Refusal::Truncated);
+            return Done::refused(Refusal::Truncated, d);
         }
-        return NextItem {
-            item: QoaItem::End,
+        return Done {
+            answer: Ok(None),
             state: settle(d),
         };
     }
-    let entered = enter_frame(d, bytes, at);
-    let state = entered.state;
-    let answer = entered.answer;
-    match answer {
-        FrameAnswer::Frame(frame) => NextItem {
-            item: QoaItem::Header(frame),
-            state,
-        },
-        FrameAnswer::End => NextItem {
-            item: QoaItem::End,
-            state,
-        },
-        FrameAnswer::Refused(r) => NextItem {
-            item: QoaItem::Refused(r),
-            state,
-        },
+    let entered = enter_frame(d, bytes, d.at);
+    Done {
+        answer: entered.answer.map(item_in),
+        state: entered.state,
     }
 }
 
@@ -120,19 +96,15 @@ pub fn next_item(d: QoaDecoder, bytes: &[u8]) -> NextItem
     ensures { ItemDone bytes.now d result }
 {
     if !state::is_good(d, bytes.len()) {
-        return refused_item(d, Refusal::BadState);
+        return Done::refused(Refusal::BadState, d);
     }
-    let next = d.next;
-    let end = d.end;
-    if next < end {
+    if d.next < d.end {
         return pending_item(d);
     }
-    let given = d.given;
-    if !given {
+    if !d.given {
         return header_item(d);
     }
-    let remaining = d.remaining;
-    if 0 < remaining {
+    if 0 < d.remaining {
         return group_item(d, bytes);
     }
     frame_item(d, bytes)

@@ -3,23 +3,18 @@
 // The calls on a decoder, with the caller's bytes: decoding into a buffer, the next frame, and the item step, which is made here of both.
 pub mod items;
 
-pub use frames::{FrameAnswer, NextFrame, next_frame};
+pub use frames::{NextFrame, next_frame};
 pub use into::{DecodedInto, decode_into};
 pub use items::next_item;
-use refusal::Refusal;
+use refusal::{Done, Refusal};
 use state::{FrameFacts, QoaDecoder};
 
-// The next item: a frame header, a sample, or the end.
+// A frame header or a sample.
 #[derive(Clone, Copy)]
 pub enum QoaItem {
     Header(FrameFacts),
     Sample(i16),
-    End,
-    Refused(Refusal),
 }
 
-#[derive(Clone, Copy)]
-pub struct NextItem {
-    pub item: QoaItem,
-    pub state: QoaDecoder,
-}
+// The next item, or none at the end, and the state after it.
+pub type NextItem = Done<Result<Option<QoaItem>, Refusal>, QoaDecoder>;

@@ -19,19 +19,21 @@ use Rattle.encoder.specs.Head.{head_bytes, head_rules}
 use Rattle.refusal.specs.Lent.{laid_over}
 use Rattle.encoder.specs.Calls.{CreateDone, FrameDone, NewState, frame_memory, frame_told, head_memory, head_told, refuses, refuses_14, told_encode, wrote}
 use Rattle.encoder.specs.Parts.{FrameFits}
-use Rattle.encoder.specs.declared.CreatedEncoder.{CreatedEncoder}
-use Rattle.encoder.specs.declared.EncodedBytes.{EncodedBytes}
+use Rattle.encoder.specs.declared.EncodeRefusal.{EncodeRefusal}
 use Rattle.encoder.specs.declared.QoaEncoder.{QoaEncoder}
 use Rattle.encoder.proofs.GoodEncoders.{Good, good_facts}
-use Rattle.refusal.specs.Refusals.{told_checked}
+use Rattle.refusal.specs.Refusals.{told_refusal}
+use Rattle.refusal.specs.declared.Done.{Done}
+use Rattle.refusal.specs.declared.Refusal.{Refusal}
+use Rattle.std.specs.Prelude.{Result}
 
 -- ---- creation
 
-module _ (c rate total : ℕ) (r : CreatedEncoder) where
-  pub create_refused : (n : ℕ) → first_of (create_rules c rate total) ≡ some n → told_checked r.answer ≡ some n → r.state ≡ zero_encoder → CreateDone c rate total r
+module _ (c rate total : ℕ) (r : Done (Result Unit Refusal) QoaEncoder) where
+  pub create_refused : (n : ℕ) → first_of (create_rules c rate total) ≡ some n → told_refusal r.answer ≡ some n → r.state ≡ zero_encoder → CreateDone c rate total r
   create_refused n e t s = record { told = rw e t; made = rw e s }
 
-  pub created : first_of (create_rules c rate total) ≡ none → told_checked r.answer ≡ none → encoder_view r.state ≡ new_view c rate total → CreateDone c rate total r
+  pub created : first_of (create_rules c rate total) ≡ none → told_refusal r.answer ≡ none → encoder_view r.state ≡ new_view c rate total → CreateDone c rate total r
   created e t s = record { told = rw e t; made = rw e s }
 
 -- and what it tells of the rules
@@ -39,11 +41,11 @@ made_new : (o : Option ℕ) (v : EncoderView) (s : QoaEncoder) → o ≡ none �
 made_new none v s e m = m
 made_new (some n) v s e m = let z : ◌≡◌ {A = ℕ} 0 1 = cc in absurd (omega arith)
 
-module _ (c rate total : ℕ) (r : CreatedEncoder) (d : CreateDone c rate total r) where
-  pub was_refused : (n : ℕ) → told_checked r.answer ≡ some n → first_of (create_rules c rate total) ≡ some n
+module _ (c rate total : ℕ) (r : Done (Result Unit Refusal) QoaEncoder) (d : CreateDone c rate total r) where
+  pub was_refused : (n : ℕ) → told_refusal r.answer ≡ some n → first_of (create_rules c rate total) ≡ some n
   was_refused n e = sym d.told ∙ e
 
-  pub was_created : told_checked r.answer ≡ none → (first_of (create_rules c rate total) ≡ none) × (encoder_view r.state ≡ new_view c rate total)
+  pub was_created : told_refusal r.answer ≡ none → (first_of (create_rules c rate total) ≡ none) × (encoder_view r.state ≡ new_view c rate total)
   was_created e =
       let quiet = sym d.told ∙ e in
       (quiet, made_new (first_of (create_rules c rate total)) (new_view c rate total) r.state quiet d.made)
@@ -93,7 +95,7 @@ module _ (v : EncoderView) (out : List ℕ) where
 
 -- ---- a frame
 
-module _ (e : QoaEncoder) (samples : List ℤ) (out : List ℕ) (r : EncodedBytes) (left : List ℕ) where
+module _ (e : QoaEncoder) (samples : List ℤ) (out : List ℕ) (r : Done (Result ℕ EncodeRefusal) QoaEncoder) (left : List ℕ) where
   abbrev rules_of : List Rule
   rules_of = encode_rules (encoder_view e) samples (length out)
 

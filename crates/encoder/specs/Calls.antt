@@ -1,18 +1,18 @@
 -- What each encoding call answers, leaves in the lent output, and hands back. Assumes nothing.
-use Rattle.std.specs.Prelude.{ℕ, ◌≡◌, List, ℤ, length}
+use Rattle.std.specs.Prelude.{ℕ, ◌≡◌, List, ℤ, length, Result, Ok, Err}
 use mathlib.Core.Option.{Option, none, some}
 use Rattle.refusal.specs.Rules.{good, after, first_of}
 use Rattle.refusal.specs.Lent.{laid_over}
 use Rattle.format.specs.Format.{frame_length}
-use Rattle.refusal.specs.Refusals.{number_of, told_checked}
+use Rattle.refusal.specs.Refusals.{number_of, told_refusal}
+use Rattle.refusal.specs.declared.Done.{Done}
+use Rattle.refusal.specs.declared.Refusal.{Refusal}
 use Rattle.encoder.specs.Encoder.{EncoderView, encoder_view, create_rules, new_view, zero_encoder}
 use Rattle.encoder.specs.Frame.{after_frame, first_wide, frame_bytes, encode_rules, per_channel}
 use Rattle.encoder.specs.Head.{head_bytes, head_rules}
 use Rattle.encoder.specs.declared.QoaEncoder.{QoaEncoder}
-use Rattle.encoder.specs.declared.CreatedEncoder.{CreatedEncoder}
-use Rattle.encoder.specs.declared.EncodedBytes.{EncodedBytes}
-use Rattle.encoder.specs.declared.EncodeAnswer.{EncodeAnswer}
-use Rattle.encoder.specs.declared.EncodeAnswer.TheVariants.{Written, Refused, WeightRange}
+use Rattle.encoder.specs.declared.EncodeRefusal.{EncodeRefusal}
+use Rattle.encoder.specs.declared.EncodeRefusal.TheVariants.{Refused, WeightRange}
 
 -- what an encoding call tells: the bytes written; a refusal; or refusal 14, with the bytes that stand in the output and the channel
 pub data Told : Type 0 where
@@ -20,10 +20,10 @@ pub data Told : Type 0 where
   refuses : ℕ → Told
   refuses_14 : ℕ → ℕ → Told
 
-abbrev pub told_encode : EncodeAnswer → Told
-told_encode (Written n) = wrote n
-told_encode (Refused r) = refuses (number_of r)
-told_encode (WeightRange count channel) = refuses_14 count channel
+abbrev pub told_encode : Result ℕ EncodeRefusal → Told
+told_encode (Ok n) = wrote n
+told_encode (Err (Refused r)) = refuses (number_of r)
+told_encode (Err (WeightRange count channel)) = refuses_14 count channel
 
 -- what comes of a thing that is there, or else the other
 abbrev pub if_some : {A B : Type 0} → Option B → (B → A) → A → A
@@ -43,8 +43,8 @@ abbrev pub NewState : Option ℕ → EncoderView → QoaEncoder → Type 0
 NewState none v e = encoder_view e ≡ v
 NewState (some n) v e = e ≡ zero_encoder
 
-pub record CreateDone (c rate total : ℕ) (r : CreatedEncoder) : Type 0 where
-  pub told : told_checked r.answer ≡ first_of (create_rules c rate total)
+pub record CreateDone (c rate total : ℕ) (r : Done (Result Unit Refusal) QoaEncoder) : Type 0 where
+  pub told : told_refusal r.answer ≡ first_of (create_rules c rate total)
   pub made : NewState (first_of (create_rules c rate total)) (new_view c rate total) r.state
 
 -- ---- the file header
@@ -69,7 +69,7 @@ frame_memory v samples out =
     (if_some (first_wide v.channels v.lms) (λ j. out)
     (laid_over out 0 (good (frame_bytes v samples))))
 
-pub record FrameDone (e : QoaEncoder) (samples : List ℤ) (out : List ℕ) (r : EncodedBytes) (left : List ℕ) : Type 0 where
+pub record FrameDone (e : QoaEncoder) (samples : List ℤ) (out : List ℕ) (r : Done (Result ℕ EncodeRefusal) QoaEncoder) (left : List ℕ) : Type 0 where
   pub told : told_encode r.answer ≡ frame_told (encoder_view e) samples (length out)
   pub memory : left ≡ frame_memory (encoder_view e) samples out
   pub back : HandsBack (frame_told (encoder_view e) samples (length out)) e (after_frame (encoder_view e) samples) r.state

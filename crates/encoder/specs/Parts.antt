@@ -1,15 +1,15 @@
 -- What the parts of the code ask and answer. Assumes nothing.
 use Rattle.std.specs.Prelude.{ℕ, ◌*◌, ◌≤◌, ◌<◌, ◌≡◌, List, ℤ, length}
+use Rattle.std.specs.Prelude as P
 use mathlib.Core.Option.{Option, none, some}
 use Rattle.format.specs.Format.{frame_len, max_channels, most_rate}
 use Rattle.encoder.specs.Encoder.{EncoderView}
 use Rattle.encoder.specs.Frame.{first_wide, per_channel}
-use Rattle.encoder.specs.declared.Wide.{Wide}
-use Rattle.encoder.specs.declared.Wide.TheVariants.{Nowhere, At}
 
-abbrev pub told_wide : Wide → Option ℕ
-told_wide Nowhere = none
-told_wide (At j) = some j
+-- the channel that the code found, as the definitions write it
+abbrev pub told_wide : P.Option ℕ → Option ℕ
+told_wide P.None = none
+told_wide (P.Some j) = some j
 
 -- a frame that no rule refuses, but for the room
 pub record FrameFits (v : EncoderView) (samples : List ℤ) : Type 0 where

@@ -3,7 +3,7 @@ ghost use Rattle.std.specs.Prelude.{◌≡◌, ◌+◌, ◌≤◌, length};
 ghost use mathlib.Core.Option.{none};
 ghost use Rattle.refusal.specs.Rules.{good, first_of};
 ghost use Rattle.format.specs.Format.{frame_length};
-ghost use Rattle.refusal.specs.Refusals.{told_checked};
+ghost use Rattle.refusal.specs.Refusals.{told_refusal};
 ghost use Rattle.encoder.specs.Encoder.{encoder_view};
 ghost use Rattle.encoder.specs.Frame.{after_frame, frame_bytes, encode_rules, per_channel};
 ghost use Rattle.refusal.specs.Lent.{laid_over};
@@ -11,35 +11,33 @@ ghost use Rattle.encoder.specs.Parts.{FrameFits};
 ghost use Rattle.encoder.specs.Calls.{FrameDone};
 
 use crate::rules::{first_wide, is_good_encoder};
-use crate::{EncodeAnswer, EncodedBytes, QoaEncoder, Wide};
+use crate::{EncodeRefusal, EncodedBytes, QoaEncoder};
 use body::{put_groups, put_states};
 use format::frame::{
     FrameHeader, QOA_FRAME_LEN, QOA_HEADER_SIZE, frame_length, header_word, state_end,
 };
-use refusal::{Checked, Refusal};
+use refusal::{Done, Refusal};
+use word::BigEndian;
 
 // The refusals of a frame but for 14, in FORMAT.md's order.
-fn check_frame(e: QoaEncoder, samples: &[i16], room: usize) -> Checked
-    ensures { told_checked result ≡ first_of (encode_rules (encoder_view e) samples.now room) }
+fn check_frame(e: QoaEncoder, samples: &[i16], room: usize) -> Result<(), Refusal>
+    ensures { told_refusal result ≡ first_of (encode_rules (encoder_view e) samples.now room) }
 {
     if !is_good_encoder(e) {
-        return Checked::Refused(Refusal::BadState);
+        return Err(Refusal::BadState);
     }
     let channels = e.channels as usize;
-    if samples.len() == 0 {
-        return Checked::Refused(Refusal::InvalidSamples);
-    }
-    if samples.len() % channels != 0 {
-        return Checked::Refused(Refusal::InvalidSamples);
+    if samples.is_empty() || samples.len() % channels != 0 {
+        return Err(Refusal::InvalidSamples);
     }
     let n = samples.len() / channels;
     if QOA_FRAME_LEN < n {
-        return Checked::Refused(Refusal::InvalidSamples);
+        return Err(Refusal::InvalidSamples);
     }
     if room < frame_length(channels, n) {
-        return Checked::Refused(Refusal::OutputTooSmall);
+        return Err(Refusal::OutputTooSmall);
     }
-    Checked::Passed
+    Ok(())
 }
 
 // Stores a frame from a place on, and hands back the state after it.
@@ -57,16 +55,11 @@ pub fn put_frame(e: QoaEncoder, samples: &[i16], out: &mut [u8], at: usize) -> Q
         samples: n as u16,
         size: frame_length(channels, n) as u16,
     };
-    word::write_u64(out, at, header_word(header));
+    header_word(header).write_be(out, at);
     let states = e.lms;
     put_states(states, channels, out, at + QOA_HEADER_SIZE);
     let next = put_groups(states, channels, samples, n, out, at + state_end(channels));
-    QoaEncoder {
-        channels: e.channels,
-        rate: e.rate,
-        total: e.total,
-        lms: next,
-    }
+    QoaEncoder { lms: next, ..e }
 }
 
 // A frame that nothing but 14 refuses.
@@ -76,19 +69,12 @@ fn encode_checked(e: QoaEncoder, samples: &[i16], out: &mut [u8]) -> EncodedByte
 {
     let channels = e.channels as usize;
     let states = e.lms;
-    match first_wide(states, channels) {
-        Wide::At(channel) => EncodedBytes {
-            answer: EncodeAnswer::WeightRange { count: 0, channel },
-            state: e,
-        },
-        Wide::Nowhere => {
-            let state = put_frame(e, samples, out, 0);
-            let count = frame_length(channels, samples.len() / channels);
-            EncodedBytes {
-                answer: EncodeAnswer::Written(count),
-                state,
-            }
-        }
+    if let Some(channel) = first_wide(states, channels) {
+        return Done::refused(EncodeRefusal::WeightRange { count: 0, channel }, e);
+    }
+    Done {
+        state: put_frame(e, samples, out, 0),
+        answer: Ok(frame_length(channels, samples.len() / channels)),
     }
 }
 
@@ -97,10 +83,7 @@ pub fn encode_frame(e: QoaEncoder, samples: &[i16], out: &mut [u8]) -> EncodedBy
     ensures { FrameDone e samples.now out.old result out.new }
 {
     match check_frame(e, samples, out.len()) {
-        Checked::Refused(r) => EncodedBytes {
-            answer: EncodeAnswer::Refused(r),
-            state: e,
-        },
-        Checked::Passed => encode_checked(e, samples, out),
+        Err(why) => Done::refused(EncodeRefusal::from(why), e),
+        Ok(()) => encode_checked(e, samples, out),
     }
 }

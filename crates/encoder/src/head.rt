@@ -7,29 +7,30 @@ ghost use Rattle.refusal.specs.Lent.{laid_over};
 ghost use Rattle.encoder.specs.Calls.{head_memory, head_told, told_encode};
 
 use crate::rules::is_good_encoder;
-use crate::{EncodeAnswer, QoaEncoder};
+use crate::{EncodeRefusal, QoaEncoder};
 use format::file::file_word;
 use format::frame::QOA_HEADER_SIZE;
 use refusal::Refusal;
+use word::BigEndian;
 
 // Stores `qoaf` and the total at the start of the output.
 pub fn put_head(total: u32, out: &mut [u8])
     requires { 8 ≤ length out.old }
     ensures { out.new ≡ laid_over out.old 0 (good (head_bytes total)) }
 {
-    word::write_u64(out, 0, file_word(total));
+    file_word(total).write_be(out, 0);
 }
 
 // The file header: 8, then 7.
-pub fn write_header(e: QoaEncoder, out: &mut [u8]) -> EncodeAnswer
+pub fn write_header(e: QoaEncoder, out: &mut [u8]) -> Result<usize, EncodeRefusal>
     ensures { (told_encode result ≡ head_told (encoder_view e) (length out.old)) × (out.new ≡ head_memory (encoder_view e) out.old) }
 {
     if !is_good_encoder(e) {
-        return EncodeAnswer::Refused(Refusal::BadState);
+        return Err(EncodeRefusal::Refused(Refusal::BadState));
     }
     if out.len() < QOA_HEADER_SIZE {
-        return EncodeAnswer::Refused(Refusal::OutputTooSmall);
+        return Err(EncodeRefusal::Refused(Refusal::OutputTooSmall));
     }
     put_head(e.total, out);
-    EncodeAnswer::Written(QOA_HEADER_SIZE)
+    Ok(QOA_HEADER_SIZE)
 }

@@ -1,9 +1,12 @@
 #![tactic(auto)]
 
 // The encoder: a state by value, and the calls on it with lent samples and lent output.
+ghost use Rattle.std.specs.Prelude.{◌≡◌};
+ghost use Rattle.encoder.specs.declared.EncodeRefusal.TheVariants.{Refused};
+
 use format::frame::QOA_MAX_CHANNELS;
 use lms::QoaLms;
-use refusal::Refusal;
+use refusal::{Done, Refusal};
 
 pub mod create;
 pub mod frame;
@@ -13,7 +16,6 @@ pub mod rules;
 pub use create::new_encoder;
 pub use frame::encode_frame;
 pub use head::write_header;
-use refusal::Checked;
 pub use rules::is_good_encoder;
 
 #[derive(Clone, Copy)]
@@ -25,29 +27,23 @@ pub struct QoaEncoder {
     pub lms: [QoaLms; QOA_MAX_CHANNELS],
 }
 
+// Why an encoding call refuses. Refusal 14 tells how many bytes stand in the output, and the first channel that has such a weight.
 #[derive(Clone, Copy)]
-pub struct CreatedEncoder {
-    pub answer: Checked,
-    pub state: QoaEncoder,
-}
-
-// How many bytes were written. Refusal 14 tells how many stand in the output, and the first channel that has such a weight.
-#[derive(Clone, Copy)]
-pub enum EncodeAnswer {
-    Written(usize),
+pub enum EncodeRefusal {
     Refused(Refusal),
     WeightRange { count: usize, channel: u8 },
 }
 
-#[derive(Clone, Copy)]
-pub struct EncodedBytes {
-    pub answer: EncodeAnswer,
-    pub state: QoaEncoder,
+impl From<Refusal> for EncodeRefusal {
+    ghost from_gives = { λ why r. r ≡ Refused why };
+
+    fn from(why: Refusal) -> EncodeRefusal {
+        EncodeRefusal::Refused(why)
+    }
 }
 
-// The first channel that has a weight out of range.
-#[derive(Clone, Copy)]
-pub enum Wide {
-    Nowhere,
-    At(u8),
-}
+// What a creation answers, with the new state, or an all-zero one.
+pub type CreatedEncoder = Done<Result<(), Refusal>, QoaEncoder>;
+
+// How many bytes were written, with the state after them.
+pub type EncodedBytes = Done<Result<usize, EncodeRefusal>, QoaEncoder>;

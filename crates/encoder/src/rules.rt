@@ -8,59 +8,41 @@ ghost use Rattle.encoder.specs.Frame.{first_wide};
 ghost use Rattle.encoder.specs.Parts.{told_wide};
 ghost use Rattle.lms.specs.Predictor.{history_rule};
 
-use crate::{QoaEncoder, Wide};
+use crate::QoaEncoder;
 use format::frame::{QOA_MAX_CHANNELS, QOA_MOST_RATE};
 use lms::{QoaLms, are_short};
 
-// The histories of the used channels are in 16 bits.
+// The histories of the used channels are in 16 bits. kept: the states with the number of channels, as the contract's `below` takes them.
 fn are_good_histories(states: [QoaLms; QOA_MAX_CHANNELS], channels: usize) -> bool
     requires { channels ≤ max_channels }
     ensures { result ≡ below channels (λ j. history_rule (lms_of states j)) }
 {
-    for j in 0..channels {
-        let lms = states[j];
-        let history = lms.history;
-        if !are_short(history) {
-            return false;
-        }
-    }
-    true
+    states[..channels].iter().all(|lms| are_short(lms.history))
 }
 
 // All of the state rules.
 pub fn is_good_encoder(e: QoaEncoder) -> bool
     ensures { result ≡ good_encoder (encoder_view e) }
 {
-    if e.channels == 0 {
+    let channels = e.channels as usize;
+    if channels == 0
+        || QOA_MAX_CHANNELS < channels
+        || e.rate == 0
+        || QOA_MOST_RATE < e.rate
+        || e.total == 0
+    {
         return false;
     }
-    if QOA_MAX_CHANNELS < e.channels as usize {
-        return false;
-    }
-    if e.rate == 0 {
-        return false;
-    }
-    if QOA_MOST_RATE < e.rate {
-        return false;
-    }
-    if e.total == 0 {
-        return false;
-    }
-    let states = e.lms;
-    are_good_histories(states, e.channels as usize)
+    are_good_histories(e.lms, channels)
 }
 
 // The first channel that has a weight out of 16 bits.
-pub fn first_wide(states: [QoaLms; QOA_MAX_CHANNELS], channels: usize) -> Wide
+pub fn first_wide(states: [QoaLms; QOA_MAX_CHANNELS], channels: usize) -> Option<u8>
     requires { channels ≤ max_channels }
     ensures { told_wide result ≡ first_wide channels states }
 {
-    for j in 0..channels {
-        let lms = states[j];
-        let weights = lms.weights;
-        if !are_short(weights) {
-            return Wide::At(j as u8);
-        }
-    }
-    Wide::Nowhere
+    let channel = states[..channels]
+        .iter()
+        .position(|lms| !are_short(lms.weights))?;
+    Some(channel as u8)
 }

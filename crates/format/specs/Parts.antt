@@ -10,10 +10,7 @@ use Rattle.lms.specs.declared.QoaLms.{QoaLms}
 use Rattle.format.specs.FileHeader.{magic, file_rules, total_of}
 use Rattle.format.specs.Predictor.{four_word}
 use Rattle.format.specs.declared.frame.FrameHeader.{FrameHeader}
-use Rattle.refusal.specs.Rules.{Answer, after, good, refused}
-use Rattle.refusal.specs.Refusals.{number_of}
-use Rattle.format.specs.declared.frame.HeaderAnswer.{HeaderAnswer}
-use Rattle.format.specs.declared.frame.HeaderAnswer.TheVariants.{Good, Refused}
+use Rattle.refusal.specs.Rules.{Answer, after, good}
 
 -- the 64-bit word of a file header
 unfoldable pub file_word : ℕ → ℕ
@@ -39,8 +36,3 @@ sooner (some n) b = some n
 -- the total, or the refusal
 unfoldable pub file_header : List ℕ → Answer ℕ
 file_header bs = after (file_rules bs) (good (total_of bs))
-
--- what the code's answer tells
-abbrev pub told_header : HeaderAnswer → Answer FrameHeader
-told_header (Good h) = good h
-told_header (Refused r) = refused (number_of r)

@@ -2,7 +2,7 @@
 ghost use Rattle.std.specs.Prelude.{◌≡◌};
 ghost use Rattle.format.specs.Facts.{facts_of};
 
-// `timed` says whether there is a length, in seconds.
+// `timed` says whether there is a length, in seconds. kept: no `Option`, since document 01 wants a length of type f64 in the record, 0.0 where there is none.
 #[derive(Clone, Copy)]
 pub struct Facts {
     pub total: u32,
@@ -16,20 +16,16 @@ pub struct Facts {
 pub fn facts_of(total: u32, channels: u8, rate: u32) -> Facts
     ensures { result ≡ facts_of total channels rate }
 {
-    if total == 0 {
-        return Facts {
-            total,
-            channels,
-            rate,
-            timed: false,
-            length: 0.0,
-        };
-    }
+    let timed = total != 0;
     Facts {
         total,
         channels,
         rate,
-        timed: true,
-        length: (total as f64) / (rate as f64),
+        timed,
+        length: if timed {
+            (total as f64) / (rate as f64)
+        } else {
+            0.0
+        },
     }
 }

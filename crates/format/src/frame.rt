@@ -2,11 +2,13 @@
 ghost use Rattle.std.specs.Prelude.{◌≡◌, ◌+◌, ◌^◌, ◌≤◌, ◌<◌, length};
 ghost use Rattle.refusal.specs.Rules.{first_of};
 ghost use Rattle.format.specs.Format.{frame_length, slices_of, state_end};
-ghost use Rattle.refusal.specs.Refusals.{told_checked};
-ghost use Rattle.format.specs.Header.{good_header, header_at, header_rules, header_word, left_at};
-ghost use Rattle.format.specs.Parts.{header_fields, told_header};
+ghost use Rattle.refusal.specs.Refusals.{told, told_refusal};
+ghost use Rattle.format.specs.Part.{length_of};
+ghost use Rattle.format.specs.Header.{good_header, header_at, header_rules, header_word};
+ghost use Rattle.format.specs.Parts.{header_fields};
 
-use refusal::{Checked, Refusal};
+use refusal::Refusal;
+use word::BigEndian;
 
 pub const QOA_SLICE_LEN: usize = 20;
 
@@ -16,7 +18,8 @@ pub const QOA_SLICES_PER_FRAME: usize = 256;
 
 pub const QOA_FRAME_LEN: usize = QOA_SLICES_PER_FRAME * QOA_SLICE_LEN;
 
-// The most channels that a frame may have.
+// The most channels that a frame may have. kept: contracts bound a plain number by it, and no type does: headers and states may say any
+// number, so a value of such a type would be made anew in each call.
 pub const QOA_MAX_CHANNELS: usize = 8;
 
 // The highest rate that 24 bits hold.
@@ -34,11 +37,13 @@ pub struct FrameHeader {
     pub size: u16,
 }
 
-// A header that passes every check.
-#[derive(Clone, Copy)]
-pub enum HeaderAnswer {
-    Good(FrameHeader),
-    Refused(Refusal),
+impl FrameHeader {
+    // The bytes of the whole frame.
+    pub fn length(self) -> usize
+        ensures { result ≡ length_of self }
+    {
+        frame_length(self.channels as usize, self.samples as usize)
+    }
 }
 
 // The fields of a word.
@@ -53,7 +58,7 @@ pub fn header_fields(word: u64) -> FrameHeader
     }
 }
 
-// The word that has these fields.
+// The word that has these fields. kept: a function and no `From`, and so its inverse, since a rate over 24 bits has no place in the word.
 pub fn header_word(h: FrameHeader) -> u64
     requires { h.rate < 2 ^ 24 }
     ensures { result ≡ header_word h }
@@ -70,15 +75,14 @@ pub fn read_header(bytes: &[u8], at: usize) -> FrameHeader
     requires { at + 8 ≤ length bytes.now }
     ensures { result ≡ header_at bytes.now at }
 {
-    header_fields(word::read_u64(bytes, at))
+    header_fields(u64::read_be(bytes, at))
 }
 
 // The slices of each channel.
 pub fn slices_of(samples: usize) -> usize
-    requires { samples < 2 ^ 63 }
     ensures { result ≡ slices_of samples }
 {
-    (samples + (QOA_SLICE_LEN - 1)) / QOA_SLICE_LEN
+    samples.div_ceil(QOA_SLICE_LEN)
 }
 
 // Where the slices of a frame start.
@@ -98,55 +102,33 @@ pub fn frame_length(channels: usize, samples: usize) -> usize
 }
 
 // The checks of a header, in FORMAT.md's order.
-pub fn check_header(h: FrameHeader) -> Checked
-    ensures { told_checked result ≡ first_of (header_rules h) }
+pub fn check_header(h: FrameHeader) -> Result<(), Refusal>
+    ensures { told_refusal result ≡ first_of (header_rules h) }
 {
     let c = h.channels as usize;
     let size = h.size as usize;
-    if c == 0 {
-        return Checked::Refused(Refusal::InvalidFrameHeader);
-    }
-    if h.rate == 0 {
-        return Checked::Refused(Refusal::InvalidFrameHeader);
-    }
     let state = state_end(c);
-    if size <= state {
-        return Checked::Refused(Refusal::InvalidFrameHeader);
+    if c == 0 || h.rate == 0 || size <= state {
+        return Err(Refusal::InvalidFrameHeader);
     }
     let k = (size - state) / 8;
-    if k % c != 0 {
-        return Checked::Refused(Refusal::InvalidFrameHeader);
-    }
-    if QOA_SLICES_PER_FRAME < k / c {
-        return Checked::Refused(Refusal::InvalidFrameHeader);
+    if k % c != 0 || QOA_SLICES_PER_FRAME < k / c {
+        return Err(Refusal::InvalidFrameHeader);
     }
     if QOA_MAX_CHANNELS < c {
-        return Checked::Refused(Refusal::TooManyChannels);
+        return Err(Refusal::TooManyChannels);
     }
-    Checked::Passed
-}
-
-// How many bytes there are from a place on: none at a place past the end.
-pub fn bytes_left(bytes: &[u8], at: usize) -> usize
-    ensures { result ≡ left_at bytes.now at }
-{
-    if at < bytes.len() {
-        bytes.len() - at
-    } else {
-        0
-    }
+    Ok(())
 }
 
 // The header at a place, or the refusal.
-pub fn header_at(bytes: &[u8], at: usize) -> HeaderAnswer
-    ensures { told_header result ≡ good_header bytes.now at }
+pub fn header_at(bytes: &[u8], at: usize) -> Result<FrameHeader, Refusal>
+    ensures { told result ≡ good_header bytes.now at }
 {
-    if bytes_left(bytes, at) < QOA_HEADER_SIZE {
-        return HeaderAnswer::Refused(Refusal::Truncated);
+    if bytes.len().saturating_sub(at) < QOA_HEADER_SIZE {
+        return Err(Refusal::Truncated);
     }
     let h = read_header(bytes, at);
-    match check_header(h) {
-        Checked::Refused(r) => HeaderAnswer::Refused(r),
-        Checked::Passed => HeaderAnswer::Good(h),
-    }
+    check_header(h)?;
+    Ok(h)
 }

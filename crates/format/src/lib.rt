@@ -12,9 +12,9 @@ pub use checks::{First, Kind, check_frame};
 pub use facts::{Facts, facts_of};
 pub use file::{file_header, file_word};
 pub use frame::{
-    FrameHeader, HeaderAnswer, QOA_FRAME_LEN, QOA_HEADER_SIZE, QOA_MAX_CHANNELS, QOA_MOST_BYTES,
-    QOA_MOST_RATE, QOA_SLICE_LEN, QOA_SLICES_PER_FRAME, bytes_left, check_header, frame_length,
-    header_at, header_fields, header_word, read_header, slices_of, state_end,
+    FrameHeader, QOA_FRAME_LEN, QOA_HEADER_SIZE, QOA_MAX_CHANNELS, QOA_MOST_BYTES, QOA_MOST_RATE,
+    QOA_SLICE_LEN, QOA_SLICES_PER_FRAME, check_header, frame_length, header_at, header_fields,
+    header_word, read_header, slices_of, state_end,
 };
 pub use part::{frame_part, part_length};
 pub use tail::tail_ok;

@@ -4,7 +4,7 @@ ghost use Rattle.format.specs.Grammar.{tail_ok};
 
 use crate::frame::QOA_HEADER_SIZE;
 
-// Whether so many bytes may be left at the end, where a frame was read or not.
+// Whether so many bytes may be left at the end, where a frame was read or not. kept: `read` is not looked at, but request M-100 needs it.
 pub fn tail_ok(left: usize, read: bool) -> bool
     ensures { result ≡ tail_ok left read }
 {

@@ -21,7 +21,10 @@ use Rattle.format.specs.Format.{slices_of}
 use Rattle.file.specs.Frame.{frame_samples}
 use Rattle.state.specs.View.{View, channels_of, total, view, waiting}
 use Rattle.into.specs.Into.{IntoDone, coming_at, into_after, into_count, into_groups, into_rules}
-use Rattle.into.specs.declared.DecodedInto.{DecodedInto}
+use Rattle.refusal.specs.declared.Done.{Done}
+use Rattle.refusal.specs.declared.Refusal.{Refusal}
+use Rattle.state.specs.declared.QoaDecoder.{QoaDecoder}
+use Rattle.std.specs.Prelude.{Result}
 use Rattle.into.proofs.Counts.{groups_within_frame}
 use Rattle.into.proofs.Onward.{coming_onward, end_onward, total_onward}
 use Rattle.decoder.proofs.GoodAfter.{into_after_good}
@@ -73,7 +76,7 @@ unfolding laid_over
 bytes_laid bytes xs n long = rw (length_bytes, long)
 
 -- the call keeps its promise
-pub block_done : (f : List ℕ) (p : InFrame) (block : List ℤ) (bytes : List ℕ) (made : DecodedInto) (block' : List ℤ) (bytes' : List ℕ) (n : ℕ)
+pub block_done : (f : List ℕ) (p : InFrame) (block : List ℤ) (bytes : List ℕ) (made : Done (Result ℕ Refusal) QoaDecoder) (block' : List ℤ) (bytes' : List ℕ) (n : ℕ)
     → After f p → p.decoder.frame.samples ≤ 65535
     → n ≡ min (length block) (total (view p.decoder))
     → IntoDone f p.decoder block made block'

@@ -29,8 +29,7 @@ pub fn open_frame(frame: &[u8]) -> InFrame
     requires { IsFree frame.now }
     ensures { (After frame.now result) × (result.done ≡ 0) }
 {
-    let entered = frames::enter_frame(state::zero_state(), frame, 0);
-    let decoder = entered.state;
+    let decoder = frames::enter_frame(state::zero_state(), frame, 0).state;
     InFrame { decoder, done: 0 }
 }
 
@@ -39,10 +38,7 @@ fn samples_left(d: QoaDecoder) -> usize
     requires { (d.next ≤ d.end) × (d.end ≤ pending_len) }
     ensures { result ≡ total (view d) }
 {
-    let frame = d.frame;
-    let channels = frame.channels as usize;
-    let remaining = d.remaining as usize;
-    (d.end - d.next) + remaining * channels
+    (d.end - d.next) + (d.remaining as usize) * (d.frame.channels as usize)
 }
 
 // The next samples, as many as `block` has room for, into `block`, and their bytes at the start of `bytes`.
@@ -51,18 +47,14 @@ pub fn next_block(p: InFrame, frame: &[u8], block: &mut [i16], bytes: &mut [u8])
     requires room { length block.old * 2 ≤ length bytes.old }
     ensures { BlockDone frame.now p block.old bytes.old result block.new bytes.new }
 {
-    let decoder = p.decoder;
-    let room = block.len();
-    let count = into::lesser(room, samples_left(decoder));
-    let made = into::decode_into(decoder, frame, block);
-    word::little::put_samples(block, count, bytes);
-    let next = made.state;
-    let done = p.done + count;
+    let count = block.len().min(samples_left(p.decoder));
+    let made = into::decode_into(p.decoder, frame, block);
+    word::little::put_samples(&block[..count], bytes);
     NextBlock {
         count,
         place: InFrame {
-            decoder: next,
-            done,
+            decoder: made.state,
+            done: p.done + count,
         },
     }
 }

@@ -32,9 +32,10 @@ use Rattle.state.specs.States.{good_state}
 use Rattle.state.specs.declared.QoaDecoder.{QoaDecoder}
 use Rattle.state.proofs.Views.{stored_lms}
 use Rattle.into.specs.Into.{groups_end}
-use Rattle.frames.specs.Frames.{NextDone, a_frame, past_rest, enter_rules, entered, entered_or, entry_rules, found_at, frame_read, next_rules}
-use Rattle.frames.specs.declared.NextFrame.{NextFrame}
-use Rattle.frames.specs.declared.FrameAnswer.TheVariants.{Frame, End, Refused}
+use Rattle.frames.specs.Frames.{NextDone, past_rest, enter_rules, entered, entered_or, entry_rules, found_at, frame_read, next_rules}
+use Rattle.refusal.specs.declared.Done.{Done}
+use Rattle.std.specs.Prelude.{Option, Some, None, Result, Ok, Err}
+use Rattle.state.specs.declared.FrameFacts.{FrameFacts}
 use Rattle.into.proofs.Coming.{lms_after}
 use Rattle.frames.specs.Parts.{EnterDone}
 use Rattle.groups.specs.Parts.{groups_states}
@@ -84,13 +85,13 @@ module _ (bs : List ℕ) (d : QoaDecoder) where
 
 -- ---- entering a frame, or the end
 
-module _ (bs : List ℕ) (d : QoaDecoder) (v : View) (r : NextFrame) where
+module _ (bs : List ℕ) (d : QoaDecoder) (v : View) (r : Done (Result (Option FrameFacts) Refusal) QoaDecoder) where
   -- the end, where that tail may be left, and where it may not
-  pub enter_end : left_at bs v.at < 8 → tail_ok (left_at bs v.at) (frame_read v) ≡ true → r.answer ≡ End → view r.state ≡ v → EnterDone bs d v r
+  pub enter_end : left_at bs v.at < 8 → tail_ok (left_at bs v.at) (frame_read v) ≡ true → r.answer ≡ Ok None → view r.state ≡ v → EnterDone bs d v r
   unfolding enter_rules found_at entered_or first_of
   enter_end short ok answer state = let test = lt-ltb (left_at bs v.at) 8 short in record { told = rw (test, ok, answer); left = rw (test, ok) state }
 
-  pub enter_tail : left_at bs v.at < 8 → tail_ok (left_at bs v.at) (frame_read v) ≡ false → r.answer ≡ Refused Truncated → r.state ≡ d → EnterDone bs d v r
+  pub enter_tail : left_at bs v.at < 8 → tail_ok (left_at bs v.at) (frame_read v) ≡ false → r.answer ≡ Err Truncated → r.state ≡ d → EnterDone bs d v r
   unfolding enter_rules first_of
   enter_tail short bad answer state = let test = lt-ltb (left_at bs v.at) 8 short in record { told = rw (test, bad, answer); left = rw (test, bad) state }
 
@@ -105,10 +106,10 @@ module _ (bs : List ℕ) (d : QoaDecoder) (v : View) (r : NextFrame) where
     unfolding enter_rules
     rules_are = rw (at-is, mode-is, there)
 
-    pub enter_refused : (x : Refusal) → first_of rules ≡ some (number_of x) → r.answer ≡ Refused x → r.state ≡ d → EnterDone bs d v r
+    pub enter_refused : (x : Refusal) → first_of rules ≡ some (number_of x) → r.answer ≡ Err x → r.state ≡ d → EnterDone bs d v r
     enter_refused x e answer state = record { told = rw (rules_are, e, answer); left = rw (rules_are, e) state }
 
-    found_is : found_at bs v ≡ a_frame (facts_in (header_at bs place))
+    found_is : found_at bs v ≡ Some (facts_in (header_at bs place))
     unfolding found_at
     found_is = rw (at-is, there)
 
@@ -116,19 +117,19 @@ module _ (bs : List ℕ) (d : QoaDecoder) (v : View) (r : NextFrame) where
     unfolding entered_or
     entered_is = let test : ltb (left_at bs v.at) 8 ≡ false = rw at-is there in ap (λ (b : Bool). cond b v (entered bs v)) test
 
-    pub enter_passed : first_of rules ≡ none → r.answer ≡ Frame (facts_in (header_at bs place)) → view r.state ≡ entered bs v → EnterDone bs d v r
+    pub enter_passed : first_of rules ≡ none → r.answer ≡ Ok (Some (facts_in (header_at bs place))) → view r.state ≡ entered bs v → EnterDone bs d v r
     enter_passed e answer state = record { told = rw (rules_are, e, answer, found_is); left = rw (rules_are, e, entered_is) state }
 
 -- ---- the call
 
-module _ (bs : List ℕ) (d : QoaDecoder) (r : NextFrame) where
-  pub next_bad : good_state (view d) (length bs) ≡ false → r.answer ≡ Refused BadState → r.state ≡ d → NextDone bs d r
+module _ (bs : List ℕ) (d : QoaDecoder) (r : Done (Result (Option FrameFacts) Refusal) QoaDecoder) where
+  pub next_bad : good_state (view d) (length bs) ≡ false → r.answer ≡ Err BadState → r.state ≡ d → NextDone bs d r
   unfolding next_rules
   next_bad e answer state =
       let f : first_of (next_rules bs (view d)) ≡ some 8 = fires 0 (next_rules bs (view d)) 8 (rw e (tt, refl)) in
       record { told = rw (f, answer); left = rw f state }
 
-  pub next_cut : good_state (view d) (length bs) ≡ true → length bs < groups_end (view d) (slices_of (view d).remaining) → r.answer ≡ Refused Truncated → r.state ≡ d → NextDone bs d r
+  pub next_cut : good_state (view d) (length bs) ≡ true → length bs < groups_end (view d) (slices_of (view d).remaining) → r.answer ≡ Err Truncated → r.state ≡ d → NextDone bs d r
   unfolding next_rules
   next_cut e cut answer state =
       let f : first_of (next_rules bs (view d)) ≡ some 5 = fires 1 (next_rules bs (view d)) 5 (rw e (tt, (omega (arith, tests), refl))) in

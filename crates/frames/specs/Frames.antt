@@ -1,27 +1,25 @@
 -- Moving to the next frame. Assumes nothing.
-use Rattle.std.specs.Prelude.{ℕ, ◌+◌, ◌*◌, ◌≡◌, Bool, true, not, cond, List, [], ◌∷◌, ltb, length}
-use Rattle.refusal.specs.Rules.{Answer, good, refused, Rule, ◌gives◌, after, first_of}
+use Rattle.std.specs.Prelude.{ℕ, ◌+◌, ◌*◌, Bool, true, not, cond, List, [], ◌∷◌, ltb, length, Option, Some, None, Result}
+use Rattle.refusal.specs.Rules.{Rule, ◌gives◌}
 use Rattle.word.specs.Table.{table}
 use Rattle.format.specs.Format.{slices_of, state_end}
 use Rattle.format.specs.Grammar.{tail_ok}
 use Rattle.format.specs.Header.{header_at, left_at}
 use Rattle.format.specs.Checks.{frame_rules}
 use Rattle.format.specs.Predictor.{lms_at}
-use Rattle.refusal.specs.Refusals.{number_of}
+use Rattle.refusal.specs.declared.Done.{Done}
+use Rattle.refusal.specs.declared.Refusal.{Refusal}
 use Rattle.format.specs.declared.frame.FrameHeader.{FrameHeader}
 use Rattle.format.specs.declared.checks.Kind.{Kind}
 use Rattle.format.specs.declared.checks.Kind.TheVariants.{Any, Like}
 use Rattle.state.specs.View.{View, channels_of, facts_in, moved_to, none_pending, view}
 use Rattle.state.specs.States.{good_state}
 use Rattle.state.specs.declared.QoaDecoder.{QoaDecoder}
-use Rattle.into.specs.Left.{Leaves}
+use Rattle.into.specs.Left.{CallDone}
 use Rattle.into.specs.Into.{groups_end, groups_lms}
-use Rattle.frames.specs.declared.NextFrame.{NextFrame}
 use Rattle.state.specs.declared.FrameFacts.{FrameFacts}
 use Rattle.state.specs.declared.ProcessingMode.{ProcessingMode}
 use Rattle.state.specs.declared.ProcessingMode.TheVariants.{FixedSamples, Streaming}
-use Rattle.frames.specs.declared.FrameAnswer.{FrameAnswer}
-use Rattle.frames.specs.declared.FrameAnswer.TheVariants.{Frame, End, Refused}
 
 -- ---- what remains of the current frame, decoded and dropped
 
@@ -64,13 +62,9 @@ entered bs v =
     let h = header_at bs v.at in
     moved_to v (facts_in h) (v.at + state_end h.channels) h.samples none_pending (table h.channels (λ j. lms_at bs (v.at + 8 + 16 * j)))
 
--- a frame, or the end
-pub data Found : Type 0 where
-  a_frame : FrameFacts → Found
-  no_frame : Found
-
-unfoldable pub found_at : List ℕ → View → Found
-found_at bs v = cond (ltb (left_at bs v.at) 8) no_frame (a_frame (facts_in (header_at bs v.at)))
+-- a frame, or none at the end
+unfoldable pub found_at : List ℕ → View → Option FrameFacts
+found_at bs v = cond (ltb (left_at bs v.at) 8) None (Some (facts_in (header_at bs v.at)))
 
 unfoldable pub entered_or : List ℕ → View → View
 entered_or bs v = cond (ltb (left_at bs v.at) 8) v (entered bs v)
@@ -84,19 +78,12 @@ next_rules bs v =
     ∷ (ltb (length bs) (groups_end v (slices_of v.remaining)) gives 5)
     ∷ enter_rules bs (past_rest bs v)
 
-abbrev pub next_found : List ℕ → View → Found
+abbrev pub next_found : List ℕ → View → Option FrameFacts
 next_found bs v = found_at bs (past_rest bs v)
 
 abbrev pub next_after : List ℕ → View → View
 next_after bs v = entered_or bs (past_rest bs v)
 
--- what the code's answer tells
-abbrev pub told_frame : FrameAnswer → Answer Found
-told_frame (Frame f) = good (a_frame f)
-told_frame End = good no_frame
-told_frame (Refused r) = refused (number_of r)
-
 -- what the call promises: its answer and its state
-pub record NextDone (bs : List ℕ) (d : QoaDecoder) (r : NextFrame) : Type 0 where
-  pub told : told_frame r.answer ≡ after (next_rules bs (view d)) (good (next_found bs (view d)))
-  pub left : Leaves (first_of (next_rules bs (view d))) d (next_after bs (view d)) r.state
+abbrev pub NextDone : List ℕ → QoaDecoder → Done (Result (Option FrameFacts) Refusal) QoaDecoder → Type 0
+NextDone bs d r = CallDone (next_rules bs (view d)) (next_found bs (view d)) d (next_after bs (view d)) r

@@ -8,31 +8,20 @@ ghost use Rattle.state.specs.View.{View, view};
 ghost use Rattle.state.specs.States.{good_state};
 ghost use Rattle.into.specs.Into.{groups_end};
 ghost use Rattle.frames.specs.Frames.{NextDone, past_rest, entered, frame_read, kind_of};
-ghost use Rattle.frames.specs.declared.FrameAnswer.TheVariants.{Refused};
 ghost use Rattle.groups.specs.Parts.{AllWithin, groups_states};
 ghost use Rattle.frames.specs.Parts.{EnterDone};
 
 use format::checks::{First, Kind};
 use format::frame::{FrameHeader, QOA_HEADER_SIZE, QOA_MAX_CHANNELS, QOA_SLICE_LEN};
 use lms::QoaLms;
-use refusal::{Checked, Refusal};
+use refusal::{Done, Refusal};
 use state::{FrameFacts, PENDING, ProcessingMode, QoaDecoder};
 
-// The next frame, or the end.
-#[derive(Clone, Copy)]
-pub enum FrameAnswer {
-    Frame(FrameFacts),
-    End,
-    Refused(Refusal),
-}
+// The next frame, or none at the end, and the state after it.
+pub type NextFrame = Done<Result<Option<FrameFacts>, Refusal>, QoaDecoder>;
 
-#[derive(Clone, Copy)]
-pub struct NextFrame {
-    pub answer: FrameAnswer,
-    pub state: QoaDecoder,
-}
-
-// The predictors after so many groups, whose samples are dropped.
+// The predictors after so many groups, whose samples are dropped. kept: the groups are counted, since bytes have no
+// chunks of 8 bytes per channel where there is no channel.
 fn run_groups(
     states: [QoaLms; QOA_MAX_CHANNELS],
     bytes: &[u8],
@@ -71,20 +60,17 @@ fn drop_rest(d: QoaDecoder, bytes: &[u8]) -> QoaDecoder
     requires whole { groups_end (view d) (slices_of d.remaining) ≤ length bytes.now }
     ensures { view result ≡ past_rest bytes.now (view d) }
 {
-    let frame = d.frame;
-    let channels = frame.channels as usize;
-    let at = d.at;
+    let channels = d.frame.channels as usize;
     let slices = format::slices_of(d.remaining as usize);
-    let states = d.lms;
-    let run = run_groups(states, bytes, at, channels, slices);
-    let mut state = d;
-    state.at = at + 8 * (slices * channels);
-    state.remaining = 0;
-    state.next = 0;
-    state.end = 0;
-    state.given = true;
-    state.lms = run;
-    state
+    QoaDecoder {
+        at: d.at + 8 * (slices * channels),
+        remaining: 0,
+        next: 0,
+        end: 0,
+        given: true,
+        lms: run_groups(d.lms, bytes, d.at, channels, slices),
+        ..d
+    }
 }
 
 // The frames that a decoder accepts.
@@ -93,11 +79,7 @@ fn kind_of(mode: ProcessingMode) -> Kind
 {
     match mode {
         ProcessingMode::Streaming => Kind::Any,
-        ProcessingMode::FixedSamples {
-            samples: _,
-            channels,
-            rate,
-        } => Kind::Like(First {
+        ProcessingMode::FixedSamples { channels, rate, .. } => Kind::Like(First {
             fixed: true,
             channels,
             rate,
@@ -109,15 +91,9 @@ fn kind_of(mode: ProcessingMode) -> Kind
 pub fn has_read(d: QoaDecoder) -> bool
     ensures { result ≡ frame_read (view d) }
 {
-    let mode = d.mode;
-    let frame = d.frame;
-    match mode {
-        ProcessingMode::Streaming => 0 < frame.channels,
-        ProcessingMode::FixedSamples {
-            samples: _,
-            channels: _,
-            rate: _,
-        } => true,
+    match d.mode {
+        ProcessingMode::Streaming => 0 < d.frame.channels,
+        ProcessingMode::FixedSamples { .. } => true,
     }
 }
 
@@ -127,18 +103,16 @@ fn start_frame(d: QoaDecoder, bytes: &[u8], place: usize, h: FrameHeader) -> Qoa
     ensures { (v : View) → v.mode ≡ d.mode → v.at ≡ place → view result ≡ entered bytes.now v }
 {
     let channels = h.channels as usize;
-    let states = d.lms;
-    let lms = predictors::read_states(bytes, place + QOA_HEADER_SIZE, channels, states);
-    let frame = state::frame_facts(h);
-    let mut state = d;
-    state.at = place + format::state_end(channels);
-    state.frame = frame;
-    state.remaining = h.samples;
-    state.next = 0;
-    state.end = 0;
-    state.given = true;
-    state.lms = lms;
-    state
+    QoaDecoder {
+        at: place + format::state_end(channels),
+        frame: FrameFacts::from(h),
+        remaining: h.samples,
+        next: 0,
+        end: 0,
+        given: true,
+        lms: predictors::read_states(bytes, place + QOA_HEADER_SIZE, channels, d.lms),
+        ..d
+    }
 }
 
 // The frame at a place where a header is left.
@@ -147,28 +121,13 @@ pub fn enter_frame(d: QoaDecoder, bytes: &[u8], place: usize) -> NextFrame
     ensures { (v : View) → v.mode ≡ d.mode → v.at ≡ place → EnterDone bytes.now d v result }
 {
     let h = format::read_header(bytes, place);
-    let mode = d.mode;
-    let kind = kind_of(mode);
     let need = format::state_end(h.channels as usize);
-    match format::check_frame(h, kind, need, bytes.len() - place) {
-        Checked::Refused(r) => NextFrame {
-            answer: FrameAnswer::Refused(r),
-            state: d,
-        },
-        Checked::Passed => NextFrame {
-            answer: FrameAnswer::Frame(state::frame_facts(h)),
+    match format::check_frame(h, kind_of(d.mode), need, bytes.len() - place) {
+        Err(why) => Done::refused(why, d),
+        Ok(()) => Done {
+            answer: Ok(Some(FrameFacts::from(h))),
             state: start_frame(d, bytes, place, h),
         },
-    }
-}
-
-// A refusal hands back the state that it was given.
-fn refused_frame(d: QoaDecoder, refusal: Refusal) -> NextFrame
-    ensures { (result.answer ≡ Refused refusal) × (result.state ≡ d) }
-{
-    NextFrame {
-        answer: FrameAnswer::Refused(refusal),
-        state: d,
     }
 }
 
@@ -177,23 +136,20 @@ pub fn next_frame(d: QoaDecoder, bytes: &[u8]) -> NextFrame
     ensures { NextDone bytes.now d result }
 {
     if !state::is_good(d, bytes.len()) {
-        return refused_frame(d, Refusal::BadState);
+        return Done::refused(Refusal::BadState, d);
     }
-    let frame = d.frame;
-    let channels = frame.channels as usize;
-    let at = d.at;
     let slices = format::slices_of(d.remaining as usize);
-    let place = at + 8 * (slices * channels);
+    let place = d.at + 8 * (slices * (d.frame.channels as usize));
     if bytes.len() < place {
-        return refused_frame(d, Refusal::Truncated);
+        return Done::refused(Refusal::Truncated, d);
     }
     let left = bytes.len() - place;
     if left < QOA_HEADER_SIZE {
         if !format::tail_ok(left, has_read(d)) {
-            return refused_frame(d, Refusal::Truncated);
+            return Done::refused(Refusal::Truncated, d);
         }
-        return NextFrame {
-            answer: FrameAnswer::End,
+        return Done {
+            answer: Ok(None),
             state: drop_rest(d, bytes),
         };
     }

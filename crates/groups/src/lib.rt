@@ -1,34 +1,24 @@
 #![tactic(auto)]
 
 // A channel's slices and slice groups, decoded into lent samples. `tab` is the dequantising table, which a caller holds for a whole frame.
-ghost use Rattle.std.specs.Prelude.{◌≡◌, ℕ, ◌+◌, ◌*◌, ◌^◌, ◌≤◌, ◌<◌, min, length};
+ghost use Rattle.std.specs.Prelude.{◌≡◌, ℕ, ◌+◌, ◌*◌, ◌^◌, ◌≤◌, ◌<◌, length};
 ghost use Rattle.word.specs.Bytes.{be64};
 ghost use Rattle.word.specs.Parts.{written};
 ghost use Rattle.lms.specs.Parts.{WeightsWithin};
-ghost use Rattle.scale.specs.Parts.{dequant_tab};
-ghost use Rattle.format.specs.Format.{max_channels, slice_len, slices_of};
+ghost use Rattle.format.specs.Format.{max_channels, slices_of};
 ghost use Rattle.groups.specs.Channel.{channel_at, run_after};
 ghost use Rattle.groups.specs.Groups.{groups_at};
 ghost use Rattle.groups.specs.Parts.{AllWithin, groups_states};
 
-use format::frame::{QOA_MAX_CHANNELS, QOA_SLICE_LEN};
+use format::frame::{QOA_MAX_CHANNELS, QOA_SLICE_LEN, slices_of};
 use lms::QoaLms;
+use scale::Dequant;
 use slice::decode_slice;
-
-// The samples of a slice, of those that are left: twenty, or fewer in a short one.
-fn slice_len(left: usize) -> usize
-    ensures { result ≡ min slice_len left }
-{
-    if left < QOA_SLICE_LEN {
-        left
-    } else {
-        QOA_SLICE_LEN
-    }
-}
+use word::BigEndian;
 
 // The slices of one channel, the first of which is at the place `at`.
 pub fn decode_channel(
-    tab: &[[i32; 8]; 16],
+    tab: &Dequant,
     lms: QoaLms,
     bytes: &[u8],
     at: usize,
@@ -37,19 +27,19 @@ pub fn decode_channel(
     out: &mut [i16],
     start: usize,
 ) -> QoaLms
-    requires table { tab.now ≡ dequant_tab }
     requires small { (WeightsWithin (2 ^ 28) lms) × (samples ≤ 65535) }
     requires whole { (g : ℕ) → g < slices_of samples → at + 8 * (g * channels) + 8 ≤ length bytes.now }
     requires room { (k : ℕ) → k < samples → start + k * channels < length out.old }
     ensures state { result ≡ run_after (λ g. be64 bytes.now (at + 8 * (g * channels))) lms (slices_of samples) }
     ensures samples { out.new ≡ written (channel_at (λ g. be64 bytes.now (at + 8 * (g * channels))) lms) out.old start channels samples }
 {
-    let slices = (samples + QOA_SLICE_LEN - 1) / QOA_SLICE_LEN;
+    let slices = slices_of(samples);
     let mut state = lms;
+    // kept: the number g says where the slice's word and its samples stand.
     for g in 0..slices {
-        let word = word::read_u64(bytes, at + 8 * (g * channels));
+        let word = u64::read_be(bytes, at + 8 * (g * channels));
         let done = QOA_SLICE_LEN * g;
-        let count = slice_len(samples - done);
+        let count = QOA_SLICE_LEN.min(samples - done);
         state = decode_slice(
             tab,
             state,
@@ -65,7 +55,7 @@ pub fn decode_channel(
 
 // The slice groups of all channels, that start at the place `at`: `samples` samples of each channel, interleaved from `start` on.
 pub fn decode_groups(
-    tab: &[[i32; 8]; 16],
+    tab: &Dequant,
     states: [QoaLms; QOA_MAX_CHANNELS],
     bytes: &[u8],
     at: usize,
@@ -74,7 +64,6 @@ pub fn decode_groups(
     out: &mut [i16],
     start: usize,
 ) -> [QoaLms; QOA_MAX_CHANNELS]
-    requires table { tab.now ≡ dequant_tab }
     requires small { (channels ≤ max_channels) × (samples ≤ 65535) }
     requires whole { at + 8 * (channels * slices_of samples) ≤ length bytes.now }
     requires room { start + samples * channels ≤ length out.old }
@@ -83,6 +72,7 @@ pub fn decode_groups(
     ensures samples { out.new ≡ written (groups_at bytes.now at channels states) out.old start 1 (samples * channels) }
 {
     let mut next = states;
+    // kept: j says where the channel's slices and its samples stand, two places beside its predictor.
     for j in 0..channels {
         let lms = next[j];
         let after = decode_channel(

@@ -1,11 +1,13 @@
 -- Decoding into a buffer: pending samples, then slice groups until the buffer is full or the frame is done. Assumes nothing.
-use Rattle.std.specs.Prelude.{ℕ, ◌+◌, ◌-◌, ◌*◌, ◌/◌, min, ◌≡◌, not, cond, List, [], ◌∷◌, eqb, ltb, ℤ, pos, get_or, length}
+use Rattle.std.specs.Prelude.{ℕ, ◌+◌, ◌-◌, ◌*◌, ◌/◌, min, ◌≡◌, not, cond, List, [], ◌∷◌, eqb, ltb, ℤ, pos, get_or, length, Result}
 use Rattle.format.specs.Format.{slice_len}
 use Rattle.refusal.specs.Rules.{good, Rule, ◌gives◌, after, first_of}
 use Rattle.refusal.specs.Lent.{laid_over}
 use Rattle.word.specs.Table.{table}
 use Rattle.lms.specs.declared.QoaLms.{QoaLms}
-use Rattle.refusal.specs.Refusals.{told_count}
+use Rattle.refusal.specs.Refusals.{told}
+use Rattle.refusal.specs.declared.Done.{Done}
+use Rattle.refusal.specs.declared.Refusal.{Refusal}
 use Rattle.format.specs.Predictor.{lms_of}
 use Rattle.groups.specs.Channel.{run_after}
 use Rattle.groups.specs.Groups.{groups_at, word_at}
@@ -13,7 +15,6 @@ use Rattle.state.specs.View.{Pending, View, channels_of, moved_to, total, view, 
 use Rattle.state.specs.States.{good_state}
 use Rattle.state.specs.declared.QoaDecoder.{QoaDecoder}
 use Rattle.into.specs.Left.{Leaves}
-use Rattle.into.specs.declared.DecodedInto.{DecodedInto}
 
 -- ---- slice groups
 
@@ -93,7 +94,7 @@ abbrev pub into_after : List ℕ → View → ℕ → View
 into_after bs v room = taken_from bs v (into_groups v room) (into_count v room)
 
 -- what the call promises, of the bytes, the state and the lent memory: its answer, its state, and that memory afterwards
-pub record IntoDone (bs : List ℕ) (d : QoaDecoder) (out : List ℤ) (r : DecodedInto) (out' : List ℤ) : Type 0 where
-  pub told : told_count r.answer ≡ after (into_rules bs (view d) (length out)) (good (into_count (view d) (length out)))
+pub record IntoDone (bs : List ℕ) (d : QoaDecoder) (out : List ℤ) (r : Done (Result ℕ Refusal) QoaDecoder) (out' : List ℤ) : Type 0 where
+  pub told : told r.answer ≡ after (into_rules bs (view d) (length out)) (good (into_count (view d) (length out)))
   pub left : Leaves (first_of (into_rules bs (view d) (length out))) d (into_after bs (view d) (length out)) r.state
   pub stored : out' ≡ laid_over out 0 (after (into_rules bs (view d) (length out)) (good (table (into_count (view d) (length out)) (coming_at bs (view d)))))

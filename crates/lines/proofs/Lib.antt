@@ -1,6 +1,3 @@
 -- What the proofs cite.
-pub mod AllLaws
-pub mod BitsLaws
 pub mod HexLaws
-pub mod ListLaws
 pub mod OutputLaws

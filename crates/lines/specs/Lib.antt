@@ -1,7 +1,5 @@
 -- What the contracts cite.
-pub mod All
 pub mod Bits
-pub mod Find
 pub mod Hex
 pub mod Lists
 pub mod Output

@@ -7,19 +7,12 @@ ghost use Rattle.lines.specs.Bits.{bits_of_double};
 pub fn bits_of(x: i64) -> u64
     ensures { result ≡ modulo (2 ^ 64) x }
 {
-    if x < 0 {
-        0xffff_ffff_ffff_ffff - ((-1 - x) as u64)
-    } else {
-        x as u64
-    }
+    x.cast_unsigned()
 }
 
 // The bits of a double; 0 for one that is no number, which equals nothing and which no call answers.
 pub fn bits_of_double(x: f64) -> u64
     ensures { result ≡ bits_of_double x }
 {
-    if x == x {
-        return f64::to_bits(x);
-    }
-    0
+    if x.is_nan() { 0 } else { x.to_bits() }
 }

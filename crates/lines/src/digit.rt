@@ -1,25 +1,18 @@
 // Lower-case hex digits.
 ghost use Rattle.std.specs.Prelude.{◌≡◌, ◌<◌};
 ghost use Rattle.io.specs.Digits.{hex_digit_ascii};
-ghost use Rattle.lines.specs.Hex.{hex_value};
+ghost use Rattle.lines.specs.Hex.{digit_value};
 
-// The value of a digit; 16 where the byte is none.
-pub fn hex_value(byte: u8) -> u8
-    ensures { result ≡ hex_value byte }
+// The value of a digit, if the byte is one.
+#[tactic(auto, unfolding(crate::specs::Hex::hex_value))]
+pub fn hex_value(byte: u8) -> Option<u8>
+    ensures { result ≡ digit_value byte }
 {
-    if byte < b'0' {
-        return 16;
+    match byte {
+        b'0'..=b'9' => Some(byte - b'0'),
+        b'a'..=b'f' => Some(byte - b'a' + 10),
+        _ => None,
     }
-    if byte <= b'9' {
-        return byte - b'0';
-    }
-    if byte < b'a' {
-        return 16;
-    }
-    if byte <= b'f' {
-        return byte - 87;
-    }
-    16
 }
 
 // The digit of a value.
@@ -27,5 +20,9 @@ pub fn hex_digit(value: u8) -> u8
     requires { value < 16 }
     ensures { result ≡ hex_digit_ascii value }
 {
-    if value < 10 { 48 + value } else { 87 + value }
+    if value < 10 {
+        b'0' + value
+    } else {
+        b'a' - 10 + value
+    }
 }

@@ -3,43 +3,35 @@ ghost use Rattle.std.specs.Prelude.{◌≡◌, ◌+◌, ◌*◌, ◌/◌, ◌%�
 ghost use Rattle.io.specs.Digits.{hex_digit_ascii};
 ghost use Rattle.word.specs.Parts.{written};
 ghost use Rattle.lines.specs.Hex.{digit_of, is_hex, pair_at};
-ghost use Rattle.lines.specs.Output.{Put};
 
 use crate::digit::{hex_digit, hex_value};
-use crate::put::fits;
 
 // Whether a text is the hex of bytes.
 pub fn is_hex(text: &[u8]) -> bool
     ensures { result ≡ is_hex text.now }
 {
-    if text.len() % 2 != 0 {
-        return false;
-    }
-    for i in 0..text.len() {
-        if 15 < hex_value(text[i]) {
-            return false;
-        }
-    }
-    true
+    text.len() % 2 == 0 && text.iter().all(|byte| hex_value(*byte).is_some())
 }
 
-// The byte that two digits say.
+// The byte that two digits say; a byte that is no digit counts as 0.
+#[tactic(auto, using(crate::proofs::HexLaws::value_or_none), unfolding(crate::specs::Hex::pair_at))]
 fn pair(text: &[u8], at: usize) -> u8
     requires { at + 1 < length text.now }
     ensures { result ≡ pair_at text.now at }
 {
-    let high = hex_value(text[at]);
-    let low = hex_value(text[at + 1]);
-    (high % 16) * 16 + low % 16
+    let high = hex_value(text[at]).unwrap_or(0);
+    let low = hex_value(text[at + 1]).unwrap_or(0);
+    high * 16 + low
 }
 
 // The bytes that a text says, as many as there are places.
+#[tactic(auto, using(crate::proofs::OutputLaws::one_more), unfolding(word::specs::Parts::written))]
 pub fn read_hex(text: &[u8], out: &mut [u8])
     requires { length out.old * 2 ≤ length text.now }
     ensures { out.new ≡ written (λ i. pair_at text.now (i * 2)) out.old 0 1 (length out.old) }
 {
-    for i in 0..out.len() {
-        out[i] = pair(text, i * 2);
+    for (i, byte) in out.iter_mut().enumerate() {
+        *byte = pair(text, i * 2);
     }
 }
 
@@ -52,22 +44,13 @@ fn store_pair(out: &mut [u8], at: usize, byte: u8)
     out[at + 1] = hex_digit(byte % 16);
 }
 
-fn store_hex(out: &mut [u8], at: usize, bytes: &[u8])
-    requires { at + length bytes.now * 2 < length out.old }
+// The digits of bytes, from a place on.
+#[tactic(auto, using(crate::proofs::HexLaws::pair_more), unfolding(word::specs::Parts::written))]
+pub fn store_hex(out: &mut [u8], at: usize, bytes: &[u8])
+    requires { at + length bytes.now * 2 ≤ length out.old }
     ensures { out.new ≡ written (digit_of bytes.now) out.old at 1 (length bytes.now * 2) }
 {
-    for i in 0..bytes.len() {
-        store_pair(out, at + i * 2, bytes[i]);
+    for (i, byte) in bytes.iter().enumerate() {
+        store_pair(out, at + i * 2, *byte);
     }
-}
-
-// The digits of bytes.
-pub fn put_hex(out: &mut [u8], at: usize, bytes: &[u8]) -> usize
-    ensures { Put (digit_of bytes.now) (length bytes.now * 2) at out.old out.new result }
-{
-    if fits(out.len(), at, bytes.len() * 2) {
-        store_hex(out, at, bytes);
-        return at + bytes.len() * 2;
-    }
-    out.len()
 }

@@ -2,6 +2,8 @@
 ghost use Rattle.std.specs.Prelude.{◌≤◌, length};
 ghost use Rattle.lines.specs.Parts.{PartTaken};
 
+use word::BigEndian;
+
 // A list: its first element, how many there are, and what stands after it.
 #[derive(Clone, Copy)]
 pub struct Part {
@@ -10,7 +12,9 @@ pub struct Part {
     pub next: usize,
 }
 
-// The list of a kind at a place, with elements of so many bytes and at most so many of them; none where there is no such list.
+// The list of a kind at a place, with elements of so many bytes and at most so many of them; where there is no
+// such list, the empty one at that place. kept: no `Option`, since the lists after it are sought at the same place.
+#[tactic(auto, using(std::proofs::lemmas::Bool::Decides::nat_tests), unfolding(crate::specs::Parts::is_part, crate::specs::Parts::part_at))]
 pub fn take(ask: &[u8], at: usize, kind: u8, width: usize, most: usize) -> Part
     requires { (at ≤ length ask.now) × (width ≤ 8) }
     ensures { PartTaken ask.now at kind width most result }
@@ -26,7 +30,7 @@ pub fn take(ask: &[u8], at: usize, kind: u8, width: usize, most: usize) -> Part
     if ask[at] != kind {
         return none;
     }
-    let count = word::read_u32(ask, at + 1) as usize;
+    let count = u32::read_be(ask, at + 1) as usize;
     if most < count {
         return none;
     }

@@ -1,6 +1,6 @@
 -- What the decoder's calls do with a block's state is what they do with the block. Assumes nothing.
 use Prim.Native.Nat.{ℕ, ◌≤◌, ◌<◌, min}
-use mathlib.Core.Path.{◌≡◌, refl, sym, ◌∙◌}
+use mathlib.Core.Path.{◌≡◌, refl, sym, ap, ◌∙◌}
 use mathlib.Core.Bool.{Bool, true, false, not, ◌&&◌}
 use mathlib.Core.List.{List, [], ◌∷◌}
 use mathlib.Core.Option.{Option, none, some}
@@ -9,7 +9,7 @@ use native.Mathlib.Omega.{arith}
 use lib.Dec.{leb, ltb}
 use lib.IntN.{ℤ, pos}
 use lib.ListN.{length, set}
-use Rattle.refusal.specs.Rules.{Rule, after, first_of, good, refused, ◌gives◌}
+use Rattle.refusal.specs.Rules.{Answer, Rule, after, first_of, good, refused, unless, ◌gives◌, ◌then◌}
 use Rattle.word.specs.Bytes.{be16}
 use Rattle.refusal.proofs.Rules.{after_refused, fires, fires_left, fires_right, good_same, none_fires, unless_good}
 use Rattle.word.proofs.Tests.{tests}
@@ -22,12 +22,16 @@ use Rattle.state.specs.View.{View, view}
 use Rattle.state.specs.declared.QoaDecoder.{QoaDecoder}
 use Rattle.word.proofs.Belows.{and_left, fails}
 use Rattle.state.proofs.GoodStates.{good_facts}
-use Rattle.into.specs.Left.{Leaves}
+use Rattle.into.specs.Left.{CallDone, Leaves}
+use Rattle.refusal.specs.Refusals.{told}
+use Rattle.refusal.specs.declared.Done.{Done}
+use Rattle.refusal.specs.declared.Refusal.{Refusal}
+use Rattle.std.specs.Prelude.{Result}
 use Rattle.refusal.specs.Lent.{laid_over}
 use Rattle.block.specs.DecoderBlock.{byte_in, decoder_bytes, decoder_in, decoder_size, frame_in, is_decoder}
 use Rattle.block.specs.Parts.{readable_decoder}
 use Rattle.codes.specs.Codes.{coded}
-use Rattle.linked_decoder.specs.Linked.{DecodeLinked, FactsLinked, OpenLinked, blocked, facts_on, facts_rules, opening_rules, three_facts}
+use Rattle.linked_decoder.specs.Linked.{DecodeLinked, FactsLinked, OpenLinked, blocked, facts_on, facts_rules, kept, opening_rules, three_facts}
 
 -- ---- a block that can't be read
 
@@ -87,6 +91,26 @@ module _ (block : List ℕ) (rules : List Rule) (number : ℕ) (next : View) whe
 
   pub linked_done : (r : ℤ) (block' : List ℕ) → first_of (blocked block rules) ≡ none → r ≡ pos number → block' ≡ laid_over block 0 (good (decoder_bytes next)) → DecodeLinked block rules number next r block'
   linked_done r block' e code kept = record { answer = code ∙ rw e; state = kept ∙ rw e }
+
+-- ---- a call whose answer a number tells
+
+module _ {A : Type 0} (block : List ℕ) (rules : List Rule) (x : A) (code_of : A → ℕ) (d : QoaDecoder) (next : View) (done : Done (Result A Refusal) QoaDecoder) (does : CallDone rules x d next done) where
+  pub linked_kept : (tells : Answer ℕ) → tells ≡ (told done.answer then λ y. good (code_of y)) → readable_decoder block ≡ true → (r : ℤ) → r ≡ coded tells → (block' : List ℕ) → block' ≡ kept tells (view done.state) block
+      → DecodeLinked block rules (code_of x) next r block'
+  linked_kept tells same readable r code block' left = by (first_of rules) refl
+    where
+      said : (o : Option ℕ) → first_of rules ≡ o → tells ≡ (unless o (good x) then λ y. good (code_of y))
+      said o e = same ∙ ap (λ (a : Answer A). a then λ y. good (code_of y)) (does.told ∙ ap (λ (p : Option ℕ). unless p (good x)) e)
+
+      by : (o : Option ℕ) → first_of rules ≡ o → DecodeLinked block rules (code_of x) next r block'
+      by none e =
+          let s = said none e in
+          linked_done block rules (code_of x) next r block' (read_rules block rules readable ∙ e) (code ∙ ap coded s)
+          (left ∙ ap (λ (a : Answer ℕ). kept a (view done.state) block) s ∙ ap (λ (v : View). laid_over block 0 (good (decoder_bytes v))) (leaves (first_of rules) d next done.state e does.left))
+      by (some n) e =
+          let s = said (some n) e in
+          let stays : block' ≡ block = left ∙ ap (λ (a : Answer ℕ). kept a (view done.state) block) s in
+          rw stays (linked_refused block rules (code_of x) next n r (read_rules block rules readable ∙ e) (code ∙ ap coded s))
 
 -- ---- opening
 

@@ -1,6 +1,6 @@
 -- The decoder's calls on a block: the answer, and the block and other lent memory after them. Assumes nothing.
 use Rattle.std.specs.Prelude.{ℕ, ◌≡◌, not, List, [], ◌∷◌, ◌++◌, ltb, ℤ, length}
-use Rattle.refusal.specs.Rules.{Answer, Rule, after, good, ◌gives◌}
+use Rattle.refusal.specs.Rules.{Answer, Rule, after, good, refused, ◌gives◌}
 use Rattle.word.specs.Table.{table}
 use Rattle.format.specs.declared.facts.Facts.{Facts}
 use Rattle.state.specs.Facts.{facts_for}
@@ -22,6 +22,11 @@ blocked block rules = (not (is_decoder block) gives 8) ∷ rules
 -- the block after a call with such rules: as it was on a refusal, else the next state's at its start
 abbrev pub decoder_left : List Rule → View → List ℕ → List ℕ
 decoder_left rules next block = laid_over block 0 (after rules (good (decoder_bytes next)))
+
+-- the same by what the call tells: on a refusal as it was, else a state's
+abbrev pub kept : Answer ℕ → View → List ℕ → List ℕ
+kept (good n) v block = laid_over block 0 (good (decoder_bytes v))
+kept (refused n) v block = block
 
 -- a call with such rules, which answers with a number and after which the state goes on
 pub record DecodeLinked (block : List ℕ) (rules : List Rule) (number : ℕ) (next : View) (r : ℤ) (block' : List ℕ) : Type 0 where

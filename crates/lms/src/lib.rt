@@ -8,14 +8,23 @@ ghost use Rattle.wrap.specs.Wrap.{low32, wrap32};
 ghost use Rattle.lms.specs.Predictor.{all_short, clamp16, cost_of, dot, new_lms, predicted, penalty_of, stepped, updated};
 ghost use Rattle.lms.specs.Parts.{older_dot, WeightsWithin};
 
+use wrap::TwosComplement;
+
 pub const QOA_LMS_LEN: usize = 4;
 
-// Four numbers of history, the newest last, and a weight for each.
+// Four numbers of history, the newest last, and a weight for each. kept: a bound on the weights is a clause and no invariant, since it is
+// another at each floor (2^26 to 2^30), and a state may be handed in with any weights.
 #[derive(Clone, Copy)]
 pub struct QoaLms {
     pub history: [i32; QOA_LMS_LEN],
     pub weights: [i32; QOA_LMS_LEN],
 }
+
+// One that is all zero.
+pub const ZERO_LMS: QoaLms = QoaLms {
+    history: [0; QOA_LMS_LEN],
+    weights: [0; QOA_LMS_LEN],
+};
 
 // The predictor of a new encoder.
 pub fn new_lms() -> QoaLms
@@ -34,7 +43,7 @@ pub fn older_dot(a: [i32; QOA_LMS_LEN], b: [i32; QOA_LMS_LEN]) -> u32
     let p0 = wrap::wrapping_mul(a[0], b[0]);
     let p1 = wrap::wrapping_mul(a[1], b[1]);
     let p2 = wrap::wrapping_mul(a[2], b[2]);
-    std::num::wrapping_add_u32(std::num::wrapping_add_u32(p0, p1), p2)
+    p0.wrapping_add(p1).wrapping_add(p2)
 }
 
 // The sum with one product more, wrapped. The newest product comes last, since the others are known before it.
@@ -42,7 +51,7 @@ pub fn add_newest(older: u32, a: i32, b: i32) -> i32
     ensures { (z : ℤ) → older ≡ low32 z → result ≡ wrap32 (z +ℤ a *ℤ b) }
 {
     let newest = wrap::wrapping_mul(a, b);
-    wrap::signed(std::num::wrapping_add_u32(older, newest))
+    i32::signed(older.wrapping_add(newest))
 }
 
 // The sum of the four products, wrapped.
@@ -56,35 +65,22 @@ fn wrapped_dot(a: [i32; QOA_LMS_LEN], b: [i32; QOA_LMS_LEN]) -> i32
 pub fn predict(lms: QoaLms) -> i32
     ensures { result ≡ predicted lms }
 {
-    let history = lms.history;
-    let weights = lms.weights;
-    wrapped_dot(weights, history) >> 13
+    wrapped_dot(lms.weights, lms.history) >> 13
 }
 
 // What large weights cost, before it is squared.
 pub fn penalty(lms: QoaLms) -> u32
     ensures { result ≡ penalty_of lms }
 {
-    let weights = lms.weights;
-    let excess = wrapped_dot(weights, weights) >> 18;
-    if excess <= 2303 {
-        0
-    } else {
-        (excess - 2303) as u32
-    }
+    let squares = wrapped_dot(lms.weights, lms.weights);
+    ((squares >> 18) - 2303).max(0) as u32
 }
 
-// The nearest number of 16 bits.
+// The nearest number of 16 bits. kept: a name of its own, which the source's `clamp` and an edit have.
 pub fn clamp(x: i32) -> i16
     ensures { result ≡ clamp16 x }
 {
-    if x < -32768 {
-        return -32768;
-    }
-    if 32767 < x {
-        return 32767;
-    }
-    x as i16
+    x.clamp(-32768, 32767) as i16
 }
 
 // The prediction plus a table value, clamped to 16 bits.
@@ -113,15 +109,18 @@ fn step(weight: i32, history: i32, d: i32) -> i32
 }
 
 // The predictor after a sample whose table value is `residual`.
-fn moved(lms: QoaLms, sample: i32, residual: i32) -> QoaLms
+pub fn update(lms: QoaLms, sample: i16, residual: i32) -> QoaLms
     requires { (WeightsWithin (2 ^ 30) lms) × (unsigned_abs residual ≤ 14336) }
     ensures { result ≡ updated lms sample residual }
 {
-    let h = lms.history;
-    let w = lms.weights;
+    let QoaLms {
+        history: h,
+        weights: w,
+    } = lms;
     let d = residual >> 4;
     QoaLms {
-        history: [h[1], h[2], h[3], sample],
+        history: [h[1], h[2], h[3], sample as i32],
+        // kept: written out, since the proof of `from_fn` was found only at the limits of the search
         weights: [
             step(w[0], h[0], d),
             step(w[1], h[1], d),
@@ -131,29 +130,16 @@ fn moved(lms: QoaLms, sample: i32, residual: i32) -> QoaLms
     }
 }
 
-// The same, of a sample of 16 bits.
-pub fn update(lms: QoaLms, sample: i16, residual: i32) -> QoaLms
-    requires { (WeightsWithin (2 ^ 30) lms) × (unsigned_abs residual ≤ 14336) }
-    ensures { result ≡ updated lms sample residual }
-{
-    moved(lms, sample as i32, residual)
-}
-
-// Whether a number is one of 16 bits.
+// Whether a number is one of 16 bits. kept: a test of its own, which loops run and an edit changes.
 pub fn is_short(x: i32) -> bool
     ensures { result ≡ nat_lt (mag x) 32768 }
 {
-    if x < -32768 { false } else { x <= 32767 }
+    -32768 <= x && x <= 32767
 }
 
 // Numbers of 16 bits.
 pub fn are_short(xs: [i32; QOA_LMS_LEN]) -> bool
     ensures { result ≡ all_short xs }
 {
-    for i in 0..QOA_LMS_LEN {
-        if !is_short(xs[i]) {
-            return false;
-        }
-    }
-    true
+    xs.iter().all(|x| is_short(*x))
 }

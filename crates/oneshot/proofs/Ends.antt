@@ -12,8 +12,9 @@ use Rattle.word.proofs.Tests.{tests}
 use Rattle.encoder.specs.Encoder.{EncoderView, encoder_view, create_rules, new_view}
 use Rattle.refusal.specs.Lent.{laid_over}
 use Rattle.encoder.specs.Calls.{refuses, refuses_14, told_encode, wrote}
-use Rattle.encoder.specs.declared.EncodeAnswer.{EncodeAnswer}
-use Rattle.encoder.specs.declared.EncodedBytes.{EncodedBytes}
+use Rattle.refusal.specs.declared.Done.{Done}
+use Rattle.encoder.specs.declared.EncodeRefusal.{EncodeRefusal}
+use Rattle.std.specs.Prelude.{Result}
 use Rattle.encoder.specs.declared.QoaEncoder.{QoaEncoder}
 use Rattle.encoder.proofs.Done.{good_left}
 use Rattle.encoder.proofs.GoodEncoders.{Good}
@@ -32,7 +33,7 @@ shot_fits v samples room e =
     let q = (quiet (shot_rules v samples room) e).1 in
     record { good_state = good_left v _ e; long = omega (arith, tests); enough = omega (arith, tests) }
 
-module _ (e : QoaEncoder) (samples : List ℤ) (out : List ℕ) (r : EncodedBytes) (left : List ℕ) where
+module _ (e : QoaEncoder) (samples : List ℤ) (out : List ℕ) (r : Done (Result ℕ EncodeRefusal) QoaEncoder) (left : List ℕ) where
   abbrev shots_of : List Rule
   shots_of = shot_rules (encoder_view e) samples (length out)
 
@@ -52,7 +53,7 @@ module _ (e : QoaEncoder) (samples : List ℤ) (out : List ℕ) (r : EncodedByte
   shot_done quiet wide t m s = record { told = rw (quiet, wide) t; memory = rw (quiet, wide) m; back = rw (quiet, wide) s }
 
 -- from a new encoder
-module _ (c rate total : ℕ) (samples : List ℤ) (out : List ℕ) (r : EncodeAnswer) (left : List ℕ) where
+module _ (c rate total : ℕ) (samples : List ℤ) (out : List ℕ) (r : Result ℕ EncodeRefusal) (left : List ℕ) where
   abbrev later : List Rule
   later = shot_rules (new_view c rate total) samples (length out)
 
@@ -62,7 +63,7 @@ module _ (c rate total : ℕ) (samples : List ℤ) (out : List ℕ) (r : EncodeA
       let first = fires_left (create_rules c rate total) later n fired in
       record { told = rw first t; memory = rw first m }
 
-  pub all_done : (s : QoaEncoder) (done : EncodedBytes) → first_of (create_rules c rate total) ≡ none → encoder_view s ≡ new_view c rate total → r ≡ done.answer → ShotDone s samples out done left
+  pub all_done : (s : QoaEncoder) (done : Done (Result ℕ EncodeRefusal) QoaEncoder) → first_of (create_rules c rate total) ≡ none → encoder_view s ≡ new_view c rate total → r ≡ done.answer → ShotDone s samples out done left
       → AllDone c rate total samples out r left
   unfolding shot_told shot_memory
   all_done s done quiet new same d =

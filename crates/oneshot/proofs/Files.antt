@@ -5,11 +5,10 @@ use mathlib.Core.List.{List}
 use mathlib.Core.Logic.{dite, ⊎_elim}
 use mathlib.Core.Option.{none, some}
 use native.Mathlib.Decide.{dec_le}
-use native.Mathlib.Nat.{mul-div_left, mul-le-mul_left, mul-le-mul_right, eq-or-lt_of_le, le_of_suc-le-suc}
+use native.Mathlib.Nat.{lt_of_mul-lt-mul_right, mul-lt-mul_of_pos_right, mul-div_left, mul-le-mul_left, mul-le-mul_right, eq-or-lt_of_le, le_of_suc-le-suc}
 use native.Mathlib.Omega.{arith}
 use lib.IntN.{ℤ}
-use lib.ListN.{length, take, drop, length-append, length-drop, length-take}
-use lib.Seq.{take_all}
+use lib.ListN.{length, length-append, length-drop, length-take}
 use Rattle.format.specs.Format.{frame_len, frame_length, slices_of, state_end}
 use Rattle.encoder.specs.Encoder.{EncoderView, encoder_view}
 use Rattle.encoder.specs.Frame.{after_frame, first_wide, frame_bytes, per_channel}
@@ -23,23 +22,6 @@ use Rattle.encoder.proofs.Frames.{after_good, length_frame, wide_view}
 use Rattle.encoder.proofs.GoodEncoders.{Good}
 use Rattle.encoder.proofs.Heads.{length_head}
 use Rattle.refusal.proofs.Lents.{over_then}
-
--- ---- the samples of a frame
-
-take_min : {A : Type 0} (m : ℕ) (l : List A) → take (min m (length l)) l ≡ take m l
-take_min m l =
-    dite (dec_le m (length l))
-    (λ less. let same : min m (length l) ≡ m = omega arith in ap (λ (n : ℕ). take n l) same)
-    (λ more. take_all (min m (length l)) l (omega arith) ∙ sym (take_all m l (omega arith)))
-
--- as the code cuts them out
-pub chunk_part : (c : ℕ) (samples : List ℤ) (f end : ℕ) → end ≡ frame_len * c * f + min (frame_len * c) (length samples - frame_len * c * f)
-    → take (end - frame_len * c * f) (drop (frame_len * c * f) samples) ≡ chunk c samples f
-unfolding chunk
-chunk_part c samples f end e =
-    let start : ℕ = frame_len * c * f in
-    let count : end - start ≡ min (frame_len * c) (length (drop start samples)) = rw length-drop (omega arith) in
-    ap (λ (n : ℕ). take n (drop start samples)) count ∙ take_min (frame_len * c) (drop start samples)
 
 -- ---- the frames of a file
 
@@ -139,6 +121,21 @@ module _ (v : EncoderView) (samples : List ℤ) where
         let more : 256 * f + slices_of (count_in v.total f) ≤ slices_of v.total = omega arith in
         omega (arith, mul-le-mul_right (state_end c) h, mul-le-mul_left c more)
 
+    -- a frame that has samples is one of them
+    pub frame_there : (f : ℕ) → frame_len * v.channels * f < length samples → f < frames_of v
+    unfolding frames_in
+    frame_there f h =
+        let inside : frame_len * f < v.total = lt_of_mul-lt-mul_right v.channels (omega (arith, long)) in
+        omega arith
+
+    -- and where no samples are left they are all there
+    pub all_frames : (f : ℕ) → f ≤ frames_of v → length samples ≤ frame_len * v.channels * f → f ≡ frames_of v
+    unfolding frames_in
+    all_frames f h done =
+        let past : v.total ≤ frame_len * f =
+        dite (dec_le v.total (frame_len * f)) (λ most. most) (λ fewer. let less : frame_len * f < v.total = omega arith in absurd (omega (arith, long, mul-lt-mul_of_pos_right less some_channels))) in
+        omega arith
+
     -- ---- one frame more, from a state that means the one before it
 
     module _ (g : Good v) (s : QoaEncoder) (f : ℕ) (same : encoder_view s ≡ state_before v samples f) (h : f < frames_of v) where
@@ -158,14 +155,8 @@ module _ (v : EncoderView) (samples : List ℤ) where
           ∙ ap (λ (w : EncoderView). first_wide w.channels w.lms) same
           ∙ ap (λ (c : ℕ). first_wide c (state_before v samples f).lms) (before_channels f)
 
-      -- what `put_chunk` asks
-      pub chunk_starts : frame_len * s.channels * f ≤ length samples
-      chunk_starts =
-          let w = within in
-          let less : frame_len * f ≤ v.total = omega arith in
-          rw channels_are (omega (arith, long, mul-le-mul_right v.channels less))
-
-      pub chunk_fits : first_wide v.channels (state_before v samples f).lms ≡ none → FrameFits (encoder_view s) (chunk s.channels samples f)
+      -- what `put_frame` asks
+      pub chunk_fits : first_wide v.channels (state_before v samples f).lms ≡ none → FrameFits (encoder_view s) (chunk v.channels samples f)
       chunk_fits narrow =
           let w = state_before v samples f in
           let xs = chunk v.channels samples f in
@@ -182,20 +173,20 @@ module _ (v : EncoderView) (samples : List ℤ) where
             few_samples = rw count (omega arith);
             narrow = rw (before_channels f) narrow;
           } in
-          rw (same, channels_are) fits
+          rw same fits
 
-      pub chunk_room : frame_place s.channels f + frame_length s.channels (per_channel (encoder_view s) (chunk s.channels samples f)) ≤ file_need v
+      pub chunk_room : frame_place v.channels f + frame_length s.channels (per_channel (encoder_view s) (chunk v.channels samples f)) ≤ file_need v
       chunk_room = let inside = within in rw (same, channels_are, per_chunk f (omega arith)) (room_after f h)
 
       -- and what it leaves
-      pub view_next : after_frame (encoder_view s) (chunk s.channels samples f) ≡ state_before v samples (suc f)
+      pub view_next : after_frame (encoder_view s) (chunk v.channels samples f) ≡ state_before v samples (suc f)
       unfolding state_before
-      view_next = rw (same, channels_are)
+      view_next = rw same
 
       pub chunk_over : (start : List ℕ) → length (bytes_before v samples f) ≤ length start
-          → laid_over (laid_over start 0 (good (bytes_before v samples f))) (frame_place s.channels f) (good (frame_bytes (encoder_view s) (chunk s.channels samples f))) ≡ laid_over start 0 (good (bytes_before v samples (suc f)))
+          → laid_over (laid_over start 0 (good (bytes_before v samples f))) (frame_place v.channels f) (good (frame_bytes (encoder_view s) (chunk v.channels samples f))) ≡ laid_over start 0 (good (bytes_before v samples (suc f)))
       unfolding bytes_before
       chunk_over start room =
           let b = bytes_before v samples f in
           let x = frame_bytes (state_before v samples f) (chunk v.channels samples f) in
-          rw (same, channels_are) (over_then start 0 (frame_place v.channels f) b x (omega (arith, place_before f h)) (omega arith))
+          rw same (over_then start 0 (frame_place v.channels f) b x (omega (arith, place_before f h)) (omega arith))

@@ -1,4 +1,5 @@
 -- Laws for the crates above.
+pub mod Turns
 pub mod Files
 pub mod Ends
 pub mod Settled

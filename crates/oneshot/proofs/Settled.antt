@@ -5,20 +5,21 @@ use mathlib.Core.List.{List}
 use lib.IntN.{ℤ}
 use lib.ListN.{length}
 use Rattle.refusal.specs.Rules.{after, good}
-use Rattle.refusal.proofs.Told.{told_count_lem}
+use Rattle.refusal.proofs.Told.{told_lem}
 use Rattle.encoder.specs.Encoder.{encoder_view}
-use Rattle.encoder.specs.declared.EncodeAnswer.{EncodeAnswer}
-use Rattle.encoder.specs.declared.EncodedBytes.{EncodedBytes}
+use Rattle.refusal.specs.declared.Done.{Done}
+use Rattle.encoder.specs.declared.EncodeRefusal.{EncodeRefusal}
+use Rattle.std.specs.Prelude.{Result}
 use Rattle.encoder.specs.declared.QoaEncoder.{QoaEncoder}
 use Rattle.encoder.proofs.Settled.{back_one, told_encode_lem}
 use Rattle.oneshot.specs.OneShot.{state_before, frames_of, need_of, need_rules, shot_rules}
 use Rattle.oneshot.specs.Shots.{AllDone, ShotDone, shot_told}
-use Rattle.refusal.specs.Refusals.{told_count}
-use Rattle.refusal.specs.declared.CountAnswer as N
+use Rattle.refusal.specs.Refusals.{told}
+use Rattle.refusal.specs.declared.Refusal.{Refusal}
 
 -- ---- encode
 
-pub shot_settled : (e : QoaEncoder) (samples : List ℤ) (out : List ℕ) (r s : EncodedBytes) (x y : List ℕ) → ShotDone e samples out r x → ShotDone e samples out s y
+pub shot_settled : (e : QoaEncoder) (samples : List ℤ) (out : List ℕ) (r s : Done (Result ℕ EncodeRefusal) QoaEncoder) (x y : List ℕ) → ShotDone e samples out r x → ShotDone e samples out s y
     → (r.answer ≡ s.answer) × (x ≡ y) × (encoder_view r.state ≡ encoder_view s.state)
 shot_settled e samples out r s x y p q = (
   told_encode_lem r.answer s.answer (p.told ∙ sym q.told),
@@ -28,11 +29,11 @@ shot_settled e samples out r s x y p q = (
 
 -- ---- encode_all
 
-pub all_settled : (c rate total : ℕ) (samples : List ℤ) (out : List ℕ) (r s : EncodeAnswer) (x y : List ℕ) → AllDone c rate total samples out r x → AllDone c rate total samples out s y
+pub all_settled : (c rate total : ℕ) (samples : List ℤ) (out : List ℕ) (r s : Result ℕ EncodeRefusal) (x y : List ℕ) → AllDone c rate total samples out r x → AllDone c rate total samples out s y
     → (r ≡ s) × (x ≡ y)
 all_settled c rate total samples out r s x y p q = (told_encode_lem r s (p.told ∙ sym q.told), p.memory ∙ sym q.memory)
 
 -- ---- encode_need
 
-pub need_settled : (c total : ℕ) (a b : N.CountAnswer) → told_count a ≡ after (need_rules c total) (good (need_of c total)) → told_count b ≡ after (need_rules c total) (good (need_of c total)) → a ≡ b
-need_settled c total a b p q = told_count_lem a b (p ∙ sym q)
+pub need_settled : (c total : ℕ) (a b : Result ℕ Refusal) → told a ≡ after (need_rules c total) (good (need_of c total)) → told b ≡ after (need_rules c total) (good (need_of c total)) → a ≡ b
+need_settled c total a b p q = told_lem a b (p ∙ sym q)

@@ -1,9 +1,16 @@
 -- Each way out of a decision is the one that is defined. Assumes nothing.
 use Prim.Native.Nat.{ℕ, ◌+◌, ◌≤◌, ◌<◌}
-use mathlib.Core.Path.{◌≡◌}
+use mathlib.Core.Path.{◌≡◌, ap}
 use mathlib.Core.Bool.{false}
 use mathlib.Core.List.{List}
 use mathlib.Core.Option.{none, some}
+use Rattle.std.specs.Prelude.{Some, None, Result, Ok, Err}
+use Rattle.std.specs.Result.{IsErrAnd}
+use Rattle.refusal.specs.Refusals.{number_of}
+use Rattle.refusal.specs.declared.Refusal.{Refusal}
+use Rattle.play.specs.declared.Next.{Next}
+use Rattle.play.specs.declared.Stop.{Stop}
+use Rattle.play.specs.declared.Stop.TheVariants.{Refused}
 use borrow.Author.Tests.{le-ltb, lt-ltb}
 use lib.Dec.{ltb}
 use lib.ListN.{length}
@@ -16,11 +23,18 @@ use Rattle.format.specs.Part.{length_of}
 use Rattle.format.specs.Checks.{frame_rules}
 use Rattle.format.specs.Parts.{file_header}
 use Rattle.format.specs.declared.frame.FrameHeader.{FrameHeader}
-use Rattle.format.specs.declared.checks.Kind.{Kind}
+use Rattle.format.specs.declared.checks.First.{First}
+use Rattle.format.specs.declared.checks.Kind.TheVariants.{Like}
 use Rattle.play.specs.Played.{most_held, number, too_large}
-use Rattle.play.specs.Decisions.{between, counted, decided_body, decided_end, decided_head, decided_size, decided_start, decided_state, kind_for, plays, reads, stops, within}
+use Rattle.play.specs.Decisions.{between, counted, decided_body, decided_end, decided_head, decided_size, decided_start, decided_state, first_for, plays, reads, stops, told_decision, told_stop, within}
 use Rattle.play.specs.declared.Run.{Run}
 use Rattle.play.specs.declared.Stage.TheVariants.{FrameState, FrameBody}
+
+-- ---- what the exit of a `?` hands on
+
+pub exit_stops : (d : Result Next Stop) (r : Refusal) → IsErrAnd d (λ s. s ≡ Refused r) → told_decision d ≡ stops (number (number_of r))
+exit_stops (Ok x) r e = absurd e
+exit_stops (Err s) r e = ap (λ (x : Stop). stops (told_stop x)) e
 
 -- ---- the file header
 
@@ -29,7 +43,7 @@ module _ (f : List ℕ) where
   unfolding file_header decided_start
   start_refused n e = rw (after_refused (file_rules f) (total_of f) n e)
 
-  pub start_on : (total : ℕ) → file_header f ≡ good total → reads (between 8 (is_fixed total) 0 0) ≡ decided_start f
+  pub start_on : (total : ℕ) → file_header f ≡ good total → reads (between 8 (is_fixed total) None) ≡ decided_start f
   unfolding file_header decided_start
   start_on total e =
       let found = after_good (file_rules f) (good (total_of f)) total e in
@@ -76,21 +90,21 @@ module _ (run : Run) (h : FrameHeader) (left size : ℕ) (size_is : size ≡ len
 
 -- ---- a frame's checks, by the header that was read, the kind and how many bytes count
 
-module _ (run : Run) (f : List ℕ) (h : FrameHeader) (kind : Kind) (left : ℕ) (h-is : h ≡ header_at f 0) (kind-is : kind ≡ kind_for run h) (left_is : left ≡ counted run (length f)) where
-  pub state_refused : (n : ℕ) → first_of (frame_rules kind h 8 left) ≡ some n → stops (number n) ≡ decided_state run f
+module _ (run : Run) (f : List ℕ) (h : FrameHeader) (first : First) (left : ℕ) (h-is : h ≡ header_at f 0) (first-is : first ≡ first_for run h) (left_is : left ≡ counted run (length f)) where
+  pub state_refused : (n : ℕ) → first_of (frame_rules (Like first) h 8 left) ≡ some n → stops (number n) ≡ decided_state run f
   unfolding decided_state
-  state_refused n e = rw (← h-is, ← kind-is, ← left_is, e)
+  state_refused n e = rw (← h-is, ← first-is, ← left_is, e)
 
-  pub state_on : first_of (frame_rules kind h 8 left) ≡ none → decided_size run h left ≡ decided_state run f
+  pub state_on : first_of (frame_rules (Like first) h 8 left) ≡ none → decided_size run h left ≡ decided_state run f
   unfolding decided_state
-  state_on e = rw (← h-is, ← kind-is, ← left_is, e)
+  state_on e = rw (← h-is, ← first-is, ← left_is, e)
 
   module _ (size : ℕ) (size_is : size ≡ length_of h) where
-    pub body_refused : (n : ℕ) → first_of (frame_rules kind h size left) ≡ some n → stops (number n) ≡ decided_body run f
+    pub body_refused : (n : ℕ) → first_of (frame_rules (Like first) h size left) ≡ some n → stops (number n) ≡ decided_body run f
     unfolding decided_body
-    body_refused n e = rw (← h-is, ← kind-is, ← left_is, ← size_is, e)
+    body_refused n e = rw (← h-is, ← first-is, ← left_is, ← size_is, e)
 
-    pub body_on : first_of (frame_rules kind h size left) ≡ none
-        → plays size (between (run.read + size) run.fixed h.channels h.rate) ≡ decided_body run f
+    pub body_on : first_of (frame_rules (Like first) h size left) ≡ none
+        → plays size (between (run.read + size) run.fixed (Some first)) ≡ decided_body run f
     unfolding decided_body
-    body_on e = rw (← h-is, ← kind-is, ← left_is, ← size_is, e)
+    body_on e = rw (← h-is, ← first-is, ← left_is, ← size_is, e)

@@ -8,7 +8,8 @@ use mathlib.Core.Option.{Option, none, some}
 use native.Mathlib.Decide.{dec_lt}
 use native.Mathlib.Nat.{zero-add}
 use native.Mathlib.Omega.{arith}
-use borrow.Author.Tests.{le-ltb, lt-ltb, ne_eqb}
+use Rattle.std.specs.Prelude.{Option as Maybe, Some, None}
+use borrow.Author.Tests.{le-ltb, lt-ltb}
 use lib.Dec.{ltb}
 use lib.ListN.{length, take, drop, length-take, length-drop}
 use lib.Seq.{take_all, take-nil}
@@ -20,15 +21,17 @@ use Rattle.format.specs.FileHeader.{file_rules, is_fixed, total_of}
 use Rattle.format.specs.Header.{header_at}
 use Rattle.format.specs.Part.{length_of}
 use Rattle.format.specs.declared.frame.FrameHeader.{FrameHeader}
+use Rattle.format.specs.declared.checks.First.{First}
 use Rattle.format.specs.declared.checks.Kind.{Kind}
+use Rattle.format.specs.declared.checks.Kind.TheVariants.{Like}
 use Rattle.format.proofs.Headers.{header_take}
 use Rattle.file.specs.Frame.{frame_samples}
 use Rattle.file.specs.Walk.{frame_at, past_frame}
-use Rattle.file.specs.Whole.{like_first, some_rules, tail_rules}
+use Rattle.file.specs.Whole.{some_rules, tail_rules}
 use Rattle.file.proofs.Frames.{frame_eight, starts}
 use Rattle.file.proofs.Accepted.{head_good}
 use Rattle.play.specs.Played.{Played, Said, before, body_played, file_played, frames_played, nine_first, nothing, number, only, or_say, played, step, unless_said, unplayed}
-use Rattle.play.specs.Decisions.{begun, between, counted, decided, decided_end, decided_head, decided_start, kind_for, reads, stops, unless_stopped}
+use Rattle.play.specs.Decisions.{begun, between, counted, decided, decided_end, decided_head, decided_start, first_for, kind_for, reads, stops, unless_stopped}
 use Rattle.play.specs.Running.{carried_out, ran, ran_by, said_after}
 use Rattle.play.specs.declared.Run.{Run}
 use Rattle.play.proofs.Deciding.{head_end, head_long}
@@ -51,9 +54,9 @@ drop_take (suc k) (suc m) (x ∷ l) = let less : suc m - suc k ≡ m - k = omega
 
 -- ---- from between two frames on, with the bytes b still to come
 
-module _ (read : ℕ) (fixed : Bool) (c r : ℕ) (b : List ℕ) (few : read ≤ most_bytes) where
+module _ (read : ℕ) (fixed : Bool) (before_it : Maybe First) (b : List ℕ) (few : read ≤ most_bytes) where
   abbrev run : Run
-  run = between read fixed c r
+  run = between read fixed before_it
 
   -- the bytes that count
   abbrev heard : List ℕ
@@ -99,13 +102,13 @@ module _ (read : ℕ) (fixed : Bool) (c r : ℕ) (b : List ℕ) (few : read ≤ 
 
     -- the same of the bytes after the frame
     abbrev pub Rest : ℕ → Type 0
-    Rest n = read + whole ≤ most_bytes → 0 < h.channels → length (past_frame b) < n
-        → ran_by n (between (read + whole) fixed h.channels h.rate) [] (past_frame b)
-        ≡ capped (read + whole + length (past_frame b)) (frames_played (like_first fixed h.channels h.rate) (take (most_bytes - (read + whole)) (past_frame b)))
+    Rest n = read + whole ≤ most_bytes → length (past_frame b) < n
+        → ran_by n (between (read + whole) fixed (Some (first_for run h))) [] (past_frame b)
+        ≡ capped (read + whole + length (past_frame b)) (frames_played (kind_for run h) (take (most_bytes - (read + whole)) (past_frame b)))
 
-    module _ (first-c first_r : ℕ) (kind-is : kind_for run h ≡ like_first fixed first-c first_r) (n : ℕ) (enough : length b < suc (suc (suc n))) (rest : Rest n) where
+    module _ (n : ℕ) (enough : length b < suc (suc (suc n))) (rest : Rest n) where
       abbrev kind : Kind
-      kind = like_first fixed first-c first_r
+      kind = kind_for run h
 
       abbrev after : List ℕ
       after = take (most_bytes - (read + whole)) (past_frame b)
@@ -118,56 +121,51 @@ module _ (read : ℕ) (fixed : Bool) (c r : ℕ) (b : List ℕ) (few : read ≤ 
           let less : most_bytes - read - whole ≡ most_bytes - (read + whole) = omega arith in
           rw header_is (drop_take whole (most_bytes - read) b ∙ ap (λ (k : ℕ). take k (past_frame b)) less)
 
-      goes_on : unplayed kind heard ≡ none → ran_by n (between (read + whole) fixed h.channels h.rate) [] (past_frame b) ≡ capped (read + length b) (frames_played kind (past_frame heard))
+      goes_on : unplayed kind heard ≡ none → ran_by n (between (read + whole) fixed (Some (first_for run h))) [] (past_frame b) ≡ capped (read + length b) (frames_played kind (past_frame heard))
       goes_on e =
           let counts = length-take (most_bytes - read) b in
           let held = rw e at (why kind heard (omega arith)) in
-          let found = starts fixed first-c first_r heard held.0 in
-          let same-c : h.channels ≡ first-c = rw header_is at found.same_channels in
-          let same-r : h.rate ≡ first_r = rw header_is at found.same_rate in
+          let first = first_for run h in
+          let found = starts first.fixed first.channels first.rate heard held.0 in
           let there : whole ≤ length heard = rw header_is at found.room in
-          let some_channels : 0 < h.channels = rw header_is at found.passes.some_channels in
           let left = length-drop whole b in
           let all : read + whole + length (past_frame b) ≡ read + length b = omega arith in
           let eight = frame_eight h in
-          rest (omega arith) some_channels (omega arith) ∙ rw (all, past_is, same-c, same-r)
+          rest (omega arith) (omega arith) ∙ rw (all, past_is)
 
       pub framed : ran_by (suc (suc (suc n))) run [] b ≡ capped (read + length b) (frames_played kind heard)
       framed =
           let long-heard = le-ltb (length heard) 8 (omega (arith, length-take (most_bytes - read) b)) in
-          frame_ran read fixed c r b few long n ∙ rw (kind-is, play_step kind heard, long-heard) (go (unplayed kind heard) refl)
+          frame_ran read fixed before_it b few long n ∙ rw (play_step kind heard, long-heard) (go (unplayed kind heard) refl)
         where
-          go : (o : Option Said) → unplayed kind heard ≡ o → outcome read fixed c r b few long n o ≡ capped (read + length b) (step false o heard (frames_played kind (past_frame heard)))
+          go : (o : Option Said) → unplayed kind heard ≡ o → outcome read fixed before_it b few long n o ≡ capped (read + length b) (step false o heard (frames_played kind (past_frame heard)))
           go (some s) e = refl
           go none e = ap (before (frame_samples (frame_at heard))) (goes_on e)
 
 -- ---- all frames after the first
 
 -- fewer than 8 bytes that count are the tail
-tail_ran : (n read : ℕ) (fixed : Bool) (c r : ℕ) (b : List ℕ) → read ≤ most_bytes → 0 < c → min (most_bytes - read) (length b) < 8
-    → ran_by (suc n) (between read fixed c r) [] b ≡ capped (read + length b) (frames_played (like_first fixed c r) (take (most_bytes - read) b))
-tail_ran n read fixed c r b few some_channels short =
+tail_ran : (n read : ℕ) (fixed : Bool) (first : First) (b : List ℕ) → read ≤ most_bytes → min (most_bytes - read) (length b) < 8
+    → ran_by (suc n) (between read fixed (Some first)) [] b ≡ capped (read + length b) (frames_played (Like first) (take (most_bytes - read) b))
+tail_ran n read fixed first b few short =
     let heard = take (most_bytes - read) b in
     let short-heard = lt-ltb (length heard) 8 (omega (arith, length-take (most_bytes - read) b)) in
-    let no_zero = ne_eqb c 0 (λ e. omega arith) in
-    end_ran read fixed c r b few short (λ left. first_of (tail_rules left)) (λ left. rw no_zero) n ∙ rw (play_step (like_first fixed c r) heard, short-heard)
+    end_ran read fixed (Some first) b few short (λ left. first_of (tail_rules left)) (λ left. refl) n ∙ rw (play_step (Like first) heard, short-heard)
 
-frames_ran : (n read : ℕ) (fixed : Bool) (c r : ℕ) (b : List ℕ) → read ≤ most_bytes → 0 < c → length b < n
-    → ran_by n (between read fixed c r) [] b ≡ capped (read + length b) (frames_played (like_first fixed c r) (take (most_bytes - read) b))
-frames_ran zero read fixed c r b few some_channels enough = absurd (omega arith)
-frames_ran (suc zero) read fixed c r b few some_channels enough = tail_ran 0 read fixed c r b few some_channels (omega arith)
-frames_ran (suc (suc zero)) read fixed c r b few some_channels enough = tail_ran 1 read fixed c r b few some_channels (omega arith)
-frames_ran (suc (suc (suc n))) read fixed c r b few some_channels enough =
-    let h = header_at b 0 in
-    let no_zero = ne_eqb c 0 (λ e. omega arith) in
+frames_ran : (n read : ℕ) (fixed : Bool) (first : First) (b : List ℕ) → read ≤ most_bytes → length b < n
+    → ran_by n (between read fixed (Some first)) [] b ≡ capped (read + length b) (frames_played (Like first) (take (most_bytes - read) b))
+frames_ran zero read fixed first b few enough = absurd (omega arith)
+frames_ran (suc zero) read fixed first b few enough = tail_ran 0 read fixed first b few (omega arith)
+frames_ran (suc (suc zero)) read fixed first b few enough = tail_ran 1 read fixed first b few (omega arith)
+frames_ran (suc (suc (suc n))) read fixed first b few enough =
     dite (dec_lt (min (most_bytes - read) (length b)) 8)
-    (λ short. tail_ran (suc (suc n)) read fixed c r b few some_channels short)
-    (λ long. framed read fixed c r b few (omega arith) c r (rw no_zero) n enough (frames_ran n (read + length_of h) fixed h.channels h.rate (past_frame b)))
+    (λ short. tail_ran (suc (suc n)) read fixed first b few short)
+    (λ long. framed read fixed (Some first) b few (omega arith) n enough (frames_ran n (read + length_of (header_at b 0)) fixed first (past_frame b)))
 
 -- ---- from the first frame on, which is like itself
 
 first_ran : (n : ℕ) (fixed : Bool) (b : List ℕ) → length b < n
-    → let heard = take (most_bytes - 8) b in ran_by n (between 8 fixed 0 0) [] b ≡ capped (8 + length b) (unless_said (first_of (some_rules heard)) (body_played fixed heard))
+    → let heard = take (most_bytes - 8) b in ran_by n (between 8 fixed None) [] b ≡ capped (8 + length b) (unless_said (first_of (some_rules heard)) (body_played fixed heard))
 unfolding first_of
 first_ran n fixed b enough = go n enough
   where
@@ -177,10 +175,10 @@ first_ran n fixed b enough = go n enough
     counts : length heard ≡ min (most_bytes - 8) (length b)
     counts = length-take (most_bytes - 8) b
 
-    none_ran : (n : ℕ) → min (most_bytes - 8) (length b) < 8 → ran_by (suc n) (between 8 fixed 0 0) [] b ≡ capped (8 + length b) (unless_said (first_of (some_rules heard)) (body_played fixed heard))
-    none_ran n short = end_ran 8 fixed 0 0 b (omega arith) short (λ left. some 2) (λ left. refl) n ∙ rw (lt-ltb (length heard) 8 (omega (arith, counts)))
+    none_ran : (n : ℕ) → min (most_bytes - 8) (length b) < 8 → ran_by (suc n) (between 8 fixed None) [] b ≡ capped (8 + length b) (unless_said (first_of (some_rules heard)) (body_played fixed heard))
+    none_ran n short = end_ran 8 fixed None b (omega arith) short (λ left. some 2) (λ left. refl) n ∙ rw (lt-ltb (length heard) 8 (omega (arith, counts)))
 
-    go : (n : ℕ) → length b < n → ran_by n (between 8 fixed 0 0) [] b ≡ capped (8 + length b) (unless_said (first_of (some_rules heard)) (body_played fixed heard))
+    go : (n : ℕ) → length b < n → ran_by n (between 8 fixed None) [] b ≡ capped (8 + length b) (unless_said (first_of (some_rules heard)) (body_played fixed heard))
     go zero enough = absurd (omega arith)
     go (suc zero) enough = none_ran 0 (omega arith)
     go (suc (suc zero)) enough = none_ran 1 (omega arith)
@@ -190,7 +188,7 @@ first_ran n fixed b enough = go n enough
         (λ short. none_ran (suc (suc n)) short)
         (λ long.
         let some = le-ltb (length heard) 8 (omega (arith, counts)) in
-        framed 8 fixed 0 0 b (omega arith) (omega arith) h.channels h.rate refl n enough (frames_ran n (8 + length_of h) fixed h.channels h.rate (past_frame b))
+        framed 8 fixed None b (omega arith) (omega arith) n enough (frames_ran n (8 + length_of h) fixed (record { fixed = fixed; channels = h.channels; rate = h.rate }) (past_frame b))
         ∙ rw (some, header_take (most_bytes - 8) b 0 (omega arith)))
 
 -- ---- the file header
@@ -209,7 +207,7 @@ rules_taken k b le =
 
 -- ---- the whole run, with as many decisions as it may take or more
 
-start_decided : (b : List ℕ) → decided begun (take 8 b) ≡ unless_stopped (first_of (file_rules b)) (reads (between 8 (is_fixed (total_of b)) 0 0))
+start_decided : (b : List ℕ) → decided begun (take 8 b) ≡ unless_stopped (first_of (file_rules b)) (reads (between 8 (is_fixed (total_of b)) None))
 unfolding decided decided_start
 start_decided b = rw (rules_taken 8 b (omega arith), be_take 4 8 b 4 (omega arith))
 
@@ -226,7 +224,7 @@ module _ (n : ℕ) (b : List ℕ) (enough : length b < n + 1) where
   fixed = is_fixed (total_of b)
 
   after_start : (o : Option ℕ) → first_of (file_rules b) ≡ o
-      → carried_out (λ next kept. ran_by n next kept (drop 8 b)) (take 8 b) (length b) (unless_stopped o (reads (between 8 fixed 0 0)))
+      → carried_out (λ next kept. ran_by n next kept (drop 8 b)) (take 8 b) (length b) (unless_stopped o (reads (between 8 fixed None)))
       ≡ capped (length b) (unless_said o (body_from fixed (drop 8 (take most_bytes b))))
   after_start (some x) e = ap only (said_number (length b) x)
   after_start none e =

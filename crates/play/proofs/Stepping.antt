@@ -5,6 +5,7 @@ use mathlib.Core.Bool.{Bool, true, false, cond}
 use mathlib.Core.List.{List, [], ◌++◌}
 use mathlib.Core.Option.{Option, none, some, some-ne-none}
 use native.Mathlib.Omega.{arith}
+use Rattle.std.specs.Prelude.{Option as Maybe, Some}
 use borrow.Author.Tests.{le-ltb, lt-ltb, ltb-false, ltb-true}
 use lib.Dec.{ltb}
 use lib.ListN.{length, take, drop, length-take, length-drop}
@@ -18,6 +19,7 @@ use Rattle.format.specs.Part.{cut_rules, length_of}
 use Rattle.format.specs.Checks.{frame_rules, kind_rules, state_rules}
 use Rattle.format.specs.Parts.{sooner}
 use Rattle.format.specs.declared.frame.FrameHeader.{FrameHeader}
+use Rattle.format.specs.declared.checks.First.{First}
 use Rattle.format.specs.declared.checks.Kind.{Kind}
 use Rattle.format.specs.declared.checks.Kind.TheVariants.{Any, Like}
 use Rattle.format.proofs.Headers.{header_take}
@@ -25,7 +27,7 @@ use Rattle.format.proofs.Checking.{in_order}
 use Rattle.file.specs.Frame.{frame_samples}
 use Rattle.file.specs.Walk.{frame_at, past_frame}
 use Rattle.play.specs.Played.{Played, Said, before, most_held, nine_first, nothing, number, only, or_else, too_large, unplayed}
-use Rattle.play.specs.Decisions.{between, counted, decided, decided_body, decided_size, decided_state, kind_for, plays, reads, unless_stopped, within}
+use Rattle.play.specs.Decisions.{between, counted, decided, decided_body, decided_size, decided_state, first_for, kind_for, plays, reads, unless_stopped, within}
 use Rattle.play.specs.Running.{carried_out, ran_by, said_after}
 use Rattle.play.specs.declared.Run.{Run}
 use Rattle.play.specs.declared.Stage.TheVariants.{FrameState, FrameBody}
@@ -99,9 +101,9 @@ unfolding frame_length
 length_past_state h = omega arith
 
 -- of the bytes b that are left after so many, those that count are 8 or more
-module _ (read : ℕ) (fixed : Bool) (c r : ℕ) (b : List ℕ) (few : read ≤ most_bytes) (long : 8 ≤ min (most_bytes - read) (length b)) where
+module _ (read : ℕ) (fixed : Bool) (before_it : Maybe First) (b : List ℕ) (few : read ≤ most_bytes) (long : 8 ≤ min (most_bytes - read) (length b)) where
   abbrev run : Run
-  run = between read fixed c r
+  run = between read fixed before_it
 
   abbrev heard : List ℕ
   heard = take (most_bytes - read) b
@@ -154,7 +156,7 @@ module _ (read : ℕ) (fixed : Bool) (c r : ℕ) (b : List ℕ) (few : read ≤ 
   -- its slices are read: where the checks before passed, only a cut frame is left to refuse
   body_decided : first_of (frame_rules kind h 8 (length heard)) ≡ none
       → decided (within run FrameBody state whole) (take whole b)
-      ≡ unless_stopped (first_of (cut_rules whole (length heard))) (plays whole (between (read + whole) fixed h.channels h.rate))
+      ≡ unless_stopped (first_of (cut_rules whole (length heard))) (plays whole (between (read + whole) fixed (Some (first_for run h))))
   unfolding decided decided_body
   body_decided passed =
       let past = state_past_eight h.channels in
@@ -176,7 +178,7 @@ module _ (read : ℕ) (fixed : Bool) (c r : ℕ) (b : List ℕ) (few : read ≤ 
   -- what becomes of the frame
   abbrev pub outcome : ℕ → Option Said → Played
   outcome n (some s) = only (nine_first (ltb most_bytes all) s)
-  outcome n none = before (frame_samples (frame_at heard)) (ran_by n (between (read + whole) fixed h.channels h.rate) [] (past_frame b))
+  outcome n none = before (frame_samples (frame_at heard)) (ran_by n (between (read + whole) fixed (Some (first_for run h))) [] (past_frame b))
 
   frame_is : whole ≤ length heard → frame_at heard ≡ take whole b
   frame_is le =
@@ -186,7 +188,7 @@ module _ (read : ℕ) (fixed : Bool) (c r : ℕ) (b : List ℕ) (few : read ≤ 
   module _ (n : ℕ) where
     -- whole, or cut
     at_body : (o : Option ℕ) → first_of (cut_rules whole (length heard)) ≡ o
-        → carried_out (λ next kept. ran_by n next kept (drop whole b)) (take whole b) all (unless_stopped o (plays whole (between (read + whole) fixed h.channels h.rate))) ≡ outcome n (or_else o none)
+        → carried_out (λ next kept. ran_by n next kept (drop whole b)) (take whole b) all (unless_stopped o (plays whole (between (read + whole) fixed (Some (first_for run h))))) ≡ outcome n (or_else o none)
     at_body (some x) e = ap only (said_number all x)
     at_body none e =
         let there : whole ≤ length heard = omega (arith, tests, quiet (cut_rules whole (length heard)) e) in

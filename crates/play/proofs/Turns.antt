@@ -5,8 +5,9 @@ use mathlib.Core.Bool.{Bool, true, false, cond}
 use mathlib.Core.List.{List}
 use mathlib.Core.Option.{Option, none, some}
 use native.Mathlib.Omega.{arith}
+use Rattle.std.specs.Prelude.{Some, None, is_none}
 use borrow.Author.Tests.{ltb-false}
-use lib.Dec.{eqb, ltb}
+use lib.Dec.{ltb}
 use lib.ListN.{length, take}
 use lib.Seq.{length-take-le}
 use Rattle.refusal.specs.Rules.{first_of}
@@ -21,7 +22,7 @@ use Rattle.format.proofs.Checking.{passed}
 use Rattle.file.specs.Parts.{IsFree}
 use Rattle.file.proofs.Frames.{frame_eight}
 use Rattle.play.specs.Played.{Said, most_held, too_large, number}
-use Rattle.play.specs.Decisions.{Decided, between, counted, decided, decided_at, decided_body, decided_end, decided_head, decided_size, decided_start, decided_state, kind_for, plays, reads, stops, unless_stopped, within}
+use Rattle.play.specs.Decisions.{Decided, between, counted, decided, decided_at, decided_body, decided_end, decided_head, decided_size, decided_start, decided_state, first_for, kind_for, plays, reads, stops, unless_stopped, within}
 use Rattle.play.specs.Parts.{GoodRun}
 use Rattle.play.specs.declared.Run.{Run}
 use Rattle.play.specs.declared.Stage.{Stage}
@@ -88,7 +89,7 @@ pub record Sounds (run : Run) (f : List ℕ) (size : ℕ) (next : Run) : Type 0 
 
 -- ---- each stage that reads on
 
-begun_good : (fixed : Bool) → GoodRun (between 8 fixed 0 0)
+begun_good : (fixed : Bool) → GoodRun (between 8 fixed None)
 begun_good fixed = record { few_read = omega arith; in_order = omega arith; fits = omega arith; header_held = omega arith }
 
 state_fits : (c : ℕ) → c < 256 → state_end c ≤ most_held
@@ -100,7 +101,7 @@ module _ (run : Run) (f : List ℕ) (good : GoodRun run) where
   unfolding decided_start
   start_onward at r e =
       let fixed : Bool = is_fixed (total_of f) in
-      let same = same_run (between 8 fixed 0 0) r (unless_reads (first_of (file_rules f)) (reads (between 8 fixed 0 0)) r e).1 in
+      let same = same_run (between 8 fixed None) r (unless_reads (first_of (file_rules f)) (reads (between 8 fixed None)) r e).1 in
       rw (← same) (record { good = begun_good fixed; nearer = rw at (omega arith) })
 
   head_onward : AreBytes f → run.stage ≡ FrameHead → (r : Run) → decided_head run f ≡ reads r → Onward run r
@@ -119,7 +120,7 @@ module _ (run : Run) (f : List ℕ) (good : GoodRun run) where
       })
     where
       past_end : (t : Bool) (d : Decided) → cond t (decided_end run (length f)) d ≡ reads r → d ≡ reads r
-      past_end true d e = not_reads _ r (cond_reads (eqb run.channels 0) (number 2) _ r e).1
+      past_end true d e = not_reads _ r (cond_reads (is_none run.first) (number 2) _ r e).1
       past_end false d e = e
 
   state_onward : run.stage ≡ FrameState → (r : Run) → decided_state run f ≡ reads r → Onward run r
@@ -167,7 +168,7 @@ module _ (run : Run) (f : List ℕ) (good : GoodRun run) where
   body_onward at size r e =
       let h = header_at f 0 in
       let left = counted run (length f) in
-      let next : Run = between (run.read + length_of h) run.fixed h.channels h.rate in
+      let next : Run = between (run.read + length_of h) run.fixed (Some (first_for run h)) in
       let found = unless_plays (first_of (frame_rules (kind_for run h) h (length_of h) left)) (plays (length_of h) next) size r e in
       let facts = passed (kind_for run h) h (length_of h) left found.0 in
       let eight = frame_eight h in
@@ -191,7 +192,7 @@ module _ (run : Run) (f : List ℕ) (good : GoodRun run) where
   unfolding decided_head
   head_quiet =
       cond_quiet (ltb (counted run (length f)) (length f)) _ _ refl
-      (cond_quiet (ltb (length f) 8) _ _ (cond_quiet (eqb run.channels 0) _ _ refl refl) refl)
+      (cond_quiet (ltb (length f) 8) _ _ (cond_quiet (is_none run.first) _ _ refl refl) refl)
 
   state_quiet : loud (decided_state run f) ≡ 0
   unfolding decided_state decided_size

@@ -1,5 +1,5 @@
 -- The program's decisions: what comes next, by the run so far and the bytes that came. Assumes nothing.
-use Rattle.std.specs.Prelude.{ℕ, ◌+◌, ◌-◌, min, Bool, false, cond, List, eqb, ltb, length}
+use Rattle.std.specs.Prelude.{Option as Maybe, Some, None, is_none, unwrap_or, ℕ, ◌+◌, ◌-◌, min, Bool, false, cond, List, ltb, length, Result, Ok, Err}
 use mathlib.Core.Option.{Option, none, some}
 use Rattle.refusal.specs.Rules.{first_of}
 use Rattle.refusal.specs.Refusals.{number_of}
@@ -9,14 +9,18 @@ use Rattle.format.specs.Header.{header_at}
 use Rattle.format.specs.Part.{cut_rules, length_of}
 use Rattle.format.specs.Checks.{frame_rules}
 use Rattle.format.specs.declared.frame.FrameHeader.{FrameHeader}
+use Rattle.format.specs.declared.checks.First.{First}
 use Rattle.format.specs.declared.checks.Kind.{Kind}
-use Rattle.file.specs.Whole.{like_first, tail_rules}
+use Rattle.format.specs.declared.checks.Kind.TheVariants.{Like}
+use Rattle.file.specs.Whole.{tail_rules}
 use Rattle.play.specs.Played.{Said, nothing, number, too_large, most_held, or_say}
 use Rattle.play.specs.declared.Run.{Run}
 use Rattle.play.specs.declared.Stage.{Stage}
 use Rattle.play.specs.declared.Stage.TheVariants.{FileHead, FrameHead, FrameState, FrameBody}
-use Rattle.play.specs.declared.Decision.{Decision}
-use Rattle.play.specs.declared.Decision.TheVariants.{Read, Play, Refuse, TooLarge, End}
+use Rattle.play.specs.declared.Next.{Next}
+use Rattle.play.specs.declared.Next.TheVariants.{Read, Play}
+use Rattle.play.specs.declared.Stop.{Stop}
+use Rattle.play.specs.declared.Stop.TheVariants.{Refused, TooLarge, End}
 
 -- read on; play the frame of so many bytes that is held, then go on; or stop
 pub data Decided : Type 0 where
@@ -25,12 +29,15 @@ pub data Decided : Type 0 where
   stops : Said → Decided
 
 -- what the code's answer tells
-abbrev pub told_decision : Decision → Decided
-told_decision (Read run) = reads run
-told_decision (Play frame) = plays frame.size frame.run
-told_decision (Refuse r) = stops (number (number_of r))
-told_decision TooLarge = stops too_large
-told_decision End = stops nothing
+abbrev pub told_stop : Stop → Said
+told_stop (Refused r) = number (number_of r)
+told_stop TooLarge = too_large
+told_stop End = nothing
+
+abbrev pub told_decision : Result Next Stop → Decided
+told_decision (Ok (Read run)) = reads run
+told_decision (Ok (Play frame)) = plays frame.size frame.run
+told_decision (Err s) = stops (told_stop s)
 
 abbrev pub unless_stopped : Option ℕ → Decided → Decided
 unless_stopped none d = d
@@ -40,15 +47,15 @@ unless_stopped (some n) d = stops (number n)
 
 -- before the first byte
 abbrev pub begun : Run
-begun = record { stage = FileHead; held = 0; want = 8; read = 0; fixed = false; channels = 0; rate = 0 }
+begun = record { stage = FileHead; held = 0; want = 8; read = 0; fixed = false; first = None }
 
--- between two frames, after so many bytes: a file's mode, and its first frame's channels and rate, both 0 before it
-abbrev pub between : ℕ → Bool → ℕ → ℕ → Run
-between read fixed c r = record { stage = FrameHead; held = 0; want = 8; read = read; fixed = fixed; channels = c; rate = r }
+-- between two frames, after so many bytes: a file's mode, and its first frame, if there was one
+abbrev pub between : ℕ → Bool → Maybe First → Run
+between read fixed first = record { stage = FrameHead; held = 0; want = 8; read = read; fixed = fixed; first = first }
 
 -- the same file, at another stage of the frame
 abbrev pub within : Run → Stage → ℕ → ℕ → Run
-within run stage held want = record { stage = stage; held = held; want = want; read = run.read; fixed = run.fixed; channels = run.channels; rate = run.rate }
+within run stage held want = record { stage = stage; held = held; want = want; read = run.read; fixed = run.fixed; first = run.first }
 
 -- how many of the bytes that came are within the most bytes of a file
 abbrev pub counted : Run → ℕ → ℕ
@@ -57,13 +64,13 @@ counted run n = min n (most_bytes - run.read)
 -- ---- the file header
 
 unfoldable pub decided_start : List ℕ → Decided
-decided_start f = unless_stopped (first_of (file_rules f)) (reads (between 8 (is_fixed (total_of f)) 0 0))
+decided_start f = unless_stopped (first_of (file_rules f)) (reads (between 8 (is_fixed (total_of f)) None))
 
 -- ---- a frame's header, or the end
 
 -- no frame is 2; then the tail's rules
 abbrev pub decided_end : Run → ℕ → Decided
-decided_end run left = cond (eqb run.channels 0) (stops (number 2)) (stops (or_say (first_of (tail_rules left)) nothing))
+decided_end run left = cond (is_none run.first) (stops (number 2)) (stops (or_say (first_of (tail_rules left)) nothing))
 
 unfoldable pub decided_head : Run → List ℕ → Decided
 decided_head run f =
@@ -73,9 +80,13 @@ decided_head run f =
 
 -- ---- a frame's predictor state: refuse, too large, or read so many bytes
 
+-- the first frame, which is this one where there was none
+abbrev pub first_for : Run → FrameHeader → First
+first_for run h = unwrap_or run.first (record { fixed = run.fixed; channels = h.channels; rate = h.rate })
+
 -- a frame like the first, which is like itself
 abbrev pub kind_for : Run → FrameHeader → Kind
-kind_for run h = cond (eqb run.channels 0) (like_first run.fixed h.channels h.rate) (like_first run.fixed run.channels run.rate)
+kind_for run h = Like (first_for run h)
 
 -- too large comes before cut
 unfoldable pub decided_size : Run → FrameHeader → ℕ → Decided
@@ -96,7 +107,7 @@ unfoldable pub decided_body : Run → List ℕ → Decided
 decided_body run f =
     let h = header_at f 0 in
     unless_stopped (first_of (frame_rules (kind_for run h) h (length_of h) (counted run (length f))))
-    (plays (length_of h) (between (run.read + length_of h) run.fixed h.channels h.rate))
+    (plays (length_of h) (between (run.read + length_of h) run.fixed (Some (first_for run h))))
 
 -- ---- at any stage
 

@@ -1,16 +1,18 @@
 #![tactic(auto)]
 
-// The program's decisions, with no reading and no writing: what comes next, by the run so far and the bytes that came.
+// The decisions of a program that plays a file, with no reading and no writing: what comes next, by the run so far and the bytes that came.
+// No program stands on them yet.
 ghost use Rattle.std.specs.Prelude.{◌≡◌, ◌+◌, ◌≤◌, length};
 ghost use Rattle.refusal.specs.Refusals.{number_of};
 ghost use Rattle.format.specs.Format.{most_bytes};
 ghost use Rattle.format.specs.Header.{header_at};
-ghost use Rattle.play.specs.Decisions.{begun, between, counted, decided, decided_body, decided_end, decided_head, decided_size, decided_start, decided_state, kind_for, said_of, told_decision, within as Decisions·within};
+ghost use Rattle.play.specs.Decisions.{begun, between, counted, decided, decided_body, decided_end, decided_head, decided_size, decided_start, decided_state, first_for, said_of, told_decision, within as Decisions·within};
 ghost use Rattle.play.specs.Parts.{GoodRun};
+ghost use Rattle.play.specs.declared.Stop.TheVariants.{Refused};
 
 use format::checks::{First, Kind};
 use format::frame::{FrameHeader, QOA_HEADER_SIZE};
-use refusal::{Checked, CountAnswer, Refusal};
+use refusal::Refusal;
 
 // The most bytes of a frame that the program holds.
 pub const MOST_HELD: usize = 65536;
@@ -28,7 +30,8 @@ pub enum Stage {
 }
 
 // What is known between two decisions: how many bytes are kept in the buffer, and up to how many it is to be filled; the bytes read before
-// those; the file's mode, and its first frame's channels and rate, both 0 before it.
+// those; the file's mode, and its first frame, if there was one.
+// kept: GoodRun is a clause of four functions and no ghost field, since the definitions build runs, for which they would owe its proof.
 #[derive(Clone, Copy)]
 pub struct Run {
     pub stage: Stage,
@@ -36,8 +39,7 @@ pub struct Run {
     pub want: usize,
     pub read: u64,
     pub fixed: bool,
-    pub channels: u8,
-    pub rate: u32,
+    pub first: Option<First>,
 }
 
 // A whole frame at the start of the buffer, of so many bytes, and the run after it.
@@ -47,15 +49,31 @@ pub struct HeldFrame {
     pub run: Run,
 }
 
-// What comes next: read on, play a frame and go on, or stop with a refusal, with "frame too large" or with nothing to say.
+// How to go on: read on, or play a frame first.
 #[derive(Clone, Copy)]
-pub enum Decision {
+pub enum Next {
     Read(Run),
     Play(HeldFrame),
-    Refuse(Refusal),
+}
+
+// Why to stop: a refusal, "frame too large", or nothing to say.
+#[derive(Clone, Copy)]
+pub enum Stop {
+    Refused(Refusal),
     TooLarge,
     End,
 }
+
+impl From<Refusal> for Stop {
+    ghost from_gives = { λ r s. s ≡ Refused r };
+
+    fn from(refusal: Refusal) -> Stop {
+        Stop::Refused(refusal)
+    }
+}
+
+// What comes next.
+pub type Decision = Result<Next, Stop>;
 
 // Before the first byte.
 pub fn begin() -> Run
@@ -67,14 +85,13 @@ pub fn begin() -> Run
         want: QOA_HEADER_SIZE,
         read: 0,
         fixed: false,
-        channels: 0,
-        rate: 0,
+        first: None,
     }
 }
 
 // The run between two frames, after so many bytes.
-fn next_head(read: u64, fixed: bool, channels: u8, rate: u32) -> Run
-    ensures { result ≡ between read fixed channels rate }
+fn next_head(read: u64, fixed: bool, first: Option<First>) -> Run
+    ensures { result ≡ between read fixed first }
 {
     Run {
         stage: Stage::FrameHead,
@@ -82,8 +99,7 @@ fn next_head(read: u64, fixed: bool, channels: u8, rate: u32) -> Run
         want: QOA_HEADER_SIZE,
         read,
         fixed,
-        channels,
-        rate,
+        first,
     }
 }
 
@@ -95,10 +111,7 @@ fn within(run: Run, stage: Stage, held: usize, want: usize) -> Run
         stage,
         held,
         want,
-        read: run.read,
-        fixed: run.fixed,
-        channels: run.channels,
-        rate: run.rate,
+        ..run
     }
 }
 
@@ -107,33 +120,29 @@ fn count_within(run: Run, n: usize) -> usize
     requires { run.read ≤ most_bytes }
     ensures { result ≡ counted run n }
 {
-    let room = (MOST_BYTES - run.read) as usize;
-    if n < room { n } else { room }
+    n.min((MOST_BYTES - run.read) as usize)
 }
 
 // The file header.
 fn start(bytes: &[u8]) -> Decision
     ensures { told_decision result ≡ decided_start bytes.now }
 {
-    match format::file_header(bytes) {
-        CountAnswer::Refused(refusal) => Decision::Refuse(refusal),
-        CountAnswer::Count(total) => {
-            Decision::Read(next_head(QOA_HEADER_SIZE as u64, total != 0, 0, 0))
-        }
-    }
+    let total = format::file_header(bytes)?;
+    Ok(Next::Read(next_head(QOA_HEADER_SIZE as u64, total != 0, None)))
 }
 
 // The end of the input, with fewer than 8 bytes left: refusal 2 where there was no frame.
+#[tactic(auto, using(std::proofs::lemmas::Bool::Decides::nat_tests), unfolding(refusal::specs::Rules::first_of))]
 fn finish(run: Run, left: usize) -> Decision
     ensures { told_decision result ≡ decided_end run left }
 {
-    if run.channels == 0 {
-        return Decision::Refuse(Refusal::NoSamples);
+    if run.first.is_none() {
+        return Err(Stop::Refused(Refusal::NoSamples));
     }
     if !format::tail_ok(left, true) {
-        return Decision::Refuse(Refusal::Truncated);
+        return Err(Stop::Refused(Refusal::Truncated));
     }
-    Decision::End
+    Err(Stop::End)
 }
 
 // A frame's header, or the end.
@@ -143,31 +152,24 @@ fn head(run: Run, bytes: &[u8]) -> Decision
 {
     let n = bytes.len();
     if count_within(run, n) < n {
-        return Decision::Refuse(Refusal::InputTooLong);
+        return Err(Stop::Refused(Refusal::InputTooLong));
     }
     if n < QOA_HEADER_SIZE {
         return finish(run, n);
     }
     let h = format::read_header(bytes, 0);
     let end = format::state_end(h.channels as usize);
-    Decision::Read(within(run, Stage::FrameState, QOA_HEADER_SIZE, end))
+    Ok(Next::Read(within(run, Stage::FrameState, QOA_HEADER_SIZE, end)))
 }
 
-// The frames that the file may have: those like the first, which is this one where there was none.
-fn kind_for(run: Run, h: FrameHeader) -> Kind
-    ensures { result ≡ kind_for run h }
+// The first frame of the file, which is this one where there was none.
+fn first_for(run: Run, h: FrameHeader) -> First
+    ensures { result ≡ first_for run h }
 {
-    if run.channels == 0 {
-        return Kind::Like(First {
-            fixed: run.fixed,
-            channels: h.channels,
-            rate: h.rate,
-        });
-    }
-    Kind::Like(First {
+    run.first.unwrap_or(First {
         fixed: run.fixed,
-        channels: run.channels,
-        rate: run.rate,
+        channels: h.channels,
+        rate: h.rate,
     })
 }
 
@@ -178,11 +180,9 @@ fn verdict(run: Run, bytes: &[u8]) -> Decision
 {
     let h = format::read_header(bytes, 0);
     let left = count_within(run, bytes.len());
-    let kind = kind_for(run, h);
-    match format::check_frame(h, kind, QOA_HEADER_SIZE, left) {
-        Checked::Refused(refusal) => Decision::Refuse(refusal),
-        Checked::Passed => size_verdict(run, h, left),
-    }
+    let first = first_for(run, h);
+    format::check_frame(h, Kind::Like(first), QOA_HEADER_SIZE, left)?;
+    size_verdict(run, h, left)
 }
 
 // The same for a frame whose checks are good.
@@ -190,14 +190,14 @@ fn size_verdict(run: Run, h: FrameHeader, left: usize) -> Decision
     ensures { told_decision result ≡ decided_size run h left }
 {
     let end = format::state_end(h.channels as usize);
-    let size = format::frame_length(h.channels as usize, h.samples as usize);
+    let size = h.length();
     if MOST_HELD < size {
-        return Decision::TooLarge;
+        return Err(Stop::TooLarge);
     }
     if left < end {
-        return Decision::Refuse(Refusal::Truncated);
+        return Err(Stop::Refused(Refusal::Truncated));
     }
-    Decision::Read(within(run, Stage::FrameBody, end, size))
+    Ok(Next::Read(within(run, Stage::FrameBody, end, size)))
 }
 
 // A frame's slices: cut, or a whole frame to play.
@@ -206,16 +206,14 @@ fn body(run: Run, bytes: &[u8]) -> Decision
     ensures { told_decision result ≡ decided_body run bytes.now }
 {
     let h = format::read_header(bytes, 0);
-    let size = format::frame_length(h.channels as usize, h.samples as usize);
+    let size = h.length();
     let left = count_within(run, bytes.len());
-    let kind = kind_for(run, h);
-    match format::check_frame(h, kind, size, left) {
-        Checked::Refused(refusal) => Decision::Refuse(refusal),
-        Checked::Passed => Decision::Play(HeldFrame {
-            size,
-            run: next_head(run.read + size as u64, run.fixed, h.channels, h.rate),
-        }),
-    }
+    let first = first_for(run, h);
+    format::check_frame(h, Kind::Like(first), size, left)?;
+    Ok(Next::Play(HeldFrame {
+        size,
+        run: next_head(run.read + size as u64, run.fixed, Some(first)),
+    }))
 }
 
 // What comes next, after a fill: `bytes` are those that the buffer holds.
@@ -237,7 +235,7 @@ pub fn said_number(refusal: Refusal, all: u64) -> u8
     ensures { result ≡ said_of all (number_of refusal) }
 {
     if MOST_BYTES < all {
-        return refusal::number(Refusal::InputTooLong);
+        return u8::from(Refusal::InputTooLong);
     }
-    refusal::number(refusal)
+    u8::from(refusal)
 }

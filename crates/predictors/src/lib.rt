@@ -13,25 +13,22 @@ ghost use Rattle.format.specs.Parts.{four_of, put_lms};
 
 use format::frame::QOA_MAX_CHANNELS;
 use lms::{QOA_LMS_LEN, QoaLms};
+use word::BigEndian;
+use wrap::TwosComplement;
 
 // The signed 16-bit number that has so many bits below it.
-fn number_in(word: u64, below: u32) -> i32
+fn number_in(word: u64, below: usize) -> i32
     requires { below < 64 }
     ensures { result ≡ to_z w16 (field 16 below word) }
 {
-    wrap::signed16(((word >> below) & 0xffff) as u16) as i32
+    i16::signed(((word >> below) & 0xffff) as u16) as i32
 }
 
 // The four numbers of a word.
 fn four_of(word: u64) -> [i32; QOA_LMS_LEN]
     ensures { result ≡ four_of word }
 {
-    [
-        number_in(word, 48),
-        number_in(word, 32),
-        number_in(word, 16),
-        number_in(word, 0),
-    ]
+    std::array::from_fn(|i| number_in(word, 48 - 16 * i))
 }
 
 // The state at a place.
@@ -39,8 +36,8 @@ pub fn read_lms(bytes: &[u8], at: usize) -> QoaLms
     requires { at + 16 ≤ length bytes.now }
     ensures { result ≡ lms_at bytes.now at }
 {
-    let history = four_of(word::read_u64(bytes, at));
-    let weights = four_of(word::read_u64(bytes, at + 8));
+    let history = four_of(u64::read_be(bytes, at));
+    let weights = four_of(u64::read_be(bytes, at + 8));
     QoaLms { history, weights }
 }
 
@@ -55,28 +52,24 @@ pub fn read_states(
     ensures { result ≡ written (λ j. lms_at bytes.now (at + 16 * j)) states 0 1 channels }
 {
     let mut all = states;
-    for j in 0..channels {
-        let lms = read_lms(bytes, at + 16 * j);
-        all[j] = lms;
+    for (j, lms) in all[..channels].iter_mut().enumerate() {
+        *lms = read_lms(bytes, at + 16 * j);
     }
     all
 }
 
-// The low 16 bits of x.
+// The low 16 bits of x. kept: a mask and a cast, since a cast loses nothing.
 fn low_half(x: i32) -> u64
     ensures { result ≡ low16 x }
 {
-    (wrap::pattern(x) & 0xffff) as u64
+    (x.pattern() & 0xffff) as u64
 }
 
 // The word of four numbers.
 fn four_word(xs: [i32; QOA_LMS_LEN]) -> u64
     ensures { result ≡ four_word xs }
 {
-    let a = low_half(xs[0]);
-    let b = low_half(xs[1]);
-    let c = low_half(xs[2]);
-    let d = low_half(xs[3]);
+    let [a, b, c, d] = xs.map(low_half);
     (a << 48) | ((b << 32) | ((c << 16) | d))
 }
 
@@ -85,8 +78,7 @@ pub fn write_lms(out: &mut [u8], at: usize, lms: QoaLms)
     requires { at + 16 ≤ length out.old }
     ensures { out.new ≡ put_lms out.old at lms }
 {
-    let history = lms.history;
-    let weights = lms.weights;
-    word::write_u64(out, at, four_word(history));
-    word::write_u64(out, at + 8, four_word(weights));
+    let QoaLms { history, weights } = lms;
+    four_word(history).write_be(out, at);
+    four_word(weights).write_be(out, at + 8);
 }

@@ -3,7 +3,7 @@
 ghost use Rattle.std.specs.Prelude.{◌≡◌, length};
 ghost use Rattle.refusal.specs.Rules.{after, good, ◌then◌};
 ghost use Rattle.format.specs.Part.{part_length};
-ghost use Rattle.state.specs.Facts.{told_facts};
+ghost use Rattle.refusal.specs.Refusals.{told};
 ghost use Rattle.file.specs.Whole.{audio_in, decode};
 ghost use Rattle.file.specs.Streaming.{streamed};
 ghost use Rattle.refusal.specs.Lent.{laid_over};
@@ -14,49 +14,37 @@ ghost use Rattle.oneshot.specs.Shots.{all_rules, shot_memory, shot_told};
 ghost use Rattle.codes.specs.Codes.{coded, coded_encode, coded_seconds};
 ghost use Rattle.qoa.specs.Coded.{channels_in, opened_facts, rate_in, sample_count};
 
-use codes::{count, encoded, minus};
-use refusal::{Checked, CountAnswer, SummaryAnswer};
-use state::FactsAnswer;
+use codes::{encoded, minus, told};
+use format::Facts;
+use refusal::Refusal;
 
 // A whole file into lent samples: how many. Nothing past them is touched, and nothing at all on a refusal.
 pub fn qoa_decode_all(bytes: &[u8], out: &mut [i16]) -> i64
     ensures answer { result ≡ coded (sample_count (decode (length out.old) bytes.now)) }
     ensures samples { out.new ≡ laid_over out.old 0 (heard_in (decode (length out.old) bytes.now)) }
 {
-    match whole::decode_all(bytes, out) {
-        SummaryAnswer::Refused(why) => minus(why),
-        SummaryAnswer::Known(summary) => count(summary.count),
-    }
+    told(whole::decode_all(bytes, out).map(|s| s.count))
 }
 
 // How many samples a whole file has, over all channels.
 pub fn qoa_decode_need(bytes: &[u8]) -> i64
     ensures { result ≡ coded (sample_count (audio_in bytes.now)) }
 {
-    match whole::decode_need(bytes) {
-        SummaryAnswer::Refused(r) => minus(r),
-        SummaryAnswer::Known(summary) => count(summary.count),
-    }
+    told(whole::decode_need(bytes).map(|s| s.count))
 }
 
 // The channels of a whole file.
 pub fn qoa_channels(bytes: &[u8]) -> i64
     ensures { result ≡ coded (channels_in (audio_in bytes.now)) }
 {
-    match whole::decode_need(bytes) {
-        SummaryAnswer::Refused(r) => minus(r),
-        SummaryAnswer::Known(summary) => summary.channels as i64,
-    }
+    told(whole::decode_need(bytes).map(|s| s.channels as usize))
 }
 
 // The rate of a whole file.
 pub fn qoa_rate(bytes: &[u8]) -> i64
     ensures { result ≡ coded (rate_in (audio_in bytes.now)) }
 {
-    match whole::decode_need(bytes) {
-        SummaryAnswer::Refused(r) => minus(r),
-        SummaryAnswer::Known(summary) => summary.rate as i64,
-    }
+    told(whole::decode_need(bytes).map(|s| s.rate as usize))
 }
 
 // Whole frames one after another into lent samples: how many.
@@ -64,65 +52,44 @@ pub fn qoa_decode_frames(bytes: &[u8], out: &mut [i16]) -> i64
     ensures answer { result ≡ coded (count_in (streamed (length out.old) bytes.now)) }
     ensures samples { out.new ≡ laid_over out.old 0 (streamed (length out.old) bytes.now) }
 {
-    match whole::decode_frames(bytes, out) {
-        CountAnswer::Refused(r) => minus(r),
-        CountAnswer::Count(n) => count(n),
-    }
+    told(whole::decode_frames(bytes, out))
 }
 
 // The length of the frame part at a place.
 pub fn qoa_part_length(bytes: &[u8], at: usize) -> i64
     ensures { result ≡ coded (part_length bytes.now at) }
 {
-    match format::part_length(bytes, at) {
-        CountAnswer::Refused(r) => minus(r),
-        CountAnswer::Count(n) => count(n),
-    }
+    told(format::part_length(bytes, at))
 }
 
 // The facts of a file at its start.
-fn opened_facts(bytes: &[u8]) -> FactsAnswer
-    ensures { told_facts result ≡ opened_facts bytes.now }
+fn opened_facts(bytes: &[u8]) -> Result<Facts, Refusal>
+    ensures { told result ≡ opened_facts bytes.now }
 {
     let opened = state::open_decoder(bytes);
-    let answer = opened.answer;
-    match answer {
-        Checked::Refused(r) => FactsAnswer::Refused(r),
-        Checked::Passed => {
-            let state = opened.state;
-            state::facts_given(state, bytes)
-        }
-    }
+    opened.answer?;
+    state::facts_given(opened.state, bytes)
 }
 
 // The declared total of samples per channel; 0 is a stream.
 pub fn qoa_facts_total(bytes: &[u8]) -> i64
     ensures { result ≡ coded (opened_facts bytes.now then λ f. good f.total) }
 {
-    match opened_facts(bytes) {
-        FactsAnswer::Refused(r) => minus(r),
-        FactsAnswer::Known(facts) => facts.total as i64,
-    }
+    told(opened_facts(bytes).map(|f| f.total as usize))
 }
 
 // The first frame's channels; 0 in a stream, of which no frame is read.
 pub fn qoa_facts_channels(bytes: &[u8]) -> i64
     ensures { result ≡ coded (opened_facts bytes.now then λ f. good f.channels) }
 {
-    match opened_facts(bytes) {
-        FactsAnswer::Refused(r) => minus(r),
-        FactsAnswer::Known(facts) => facts.channels as i64,
-    }
+    told(opened_facts(bytes).map(|f| f.channels as usize))
 }
 
 // The first frame's rate; 0 in a stream.
 pub fn qoa_facts_rate(bytes: &[u8]) -> i64
     ensures { result ≡ coded (opened_facts bytes.now then λ f. good f.rate) }
 {
-    match opened_facts(bytes) {
-        FactsAnswer::Refused(r) => minus(r),
-        FactsAnswer::Known(facts) => facts.rate as i64,
-    }
+    told(opened_facts(bytes).map(|f| f.rate as usize))
 }
 
 // The length in seconds; 0.0 in a stream, which has none. A refusal is minus its number.
@@ -130,8 +97,8 @@ pub fn qoa_facts_seconds(bytes: &[u8]) -> f64
     ensures { result ≡ coded_seconds (opened_facts bytes.now then λ f. good f.length) }
 {
     match opened_facts(bytes) {
-        FactsAnswer::Refused(r) => minus(r) as f64,
-        FactsAnswer::Known(facts) => facts.length,
+        Err(why) => minus(why) as f64,
+        Ok(facts) => facts.length,
     }
 }
 
@@ -147,8 +114,5 @@ pub fn qoa_encode_all(channels: u8, rate: u32, total: u32, samples: &[i16], out:
 pub fn qoa_encode_need(channels: u8, total: u32) -> i64
     ensures { result ≡ coded (after (need_rules channels total) (good (need_of channels total))) }
 {
-    match oneshot::encode_need(channels, total) {
-        CountAnswer::Refused(r) => minus(r),
-        CountAnswer::Count(n) => count(n),
-    }
+    told(oneshot::encode_need(channels, total))
 }

@@ -1,79 +1,62 @@
 // The calls on a decoder at a place of the bytes: what each gives, and the new place. On a refusal the place and the state are as they were given.
-ghost use Rattle.std.specs.Prelude.{◌≡◌};
-ghost use Rattle.reader.specs.Read.{FrameRead, IntoRead, ItemRead, placed};
+ghost use Rattle.std.specs.Prelude.{◌≡◌, List};
+ghost use Rattle.refusal.specs.Rules.{Rule};
+ghost use Rattle.state.specs.View.{View};
+ghost use Rattle.into.specs.Left.{CallDone};
+ghost use Rattle.reader.specs.Read.{FrameRead, HandedDone, IntoRead, ItemRead, placed};
 
-use decoder::{DecodedInto, FrameAnswer, NextFrame, NextItem, QoaItem};
-use refusal::CountAnswer;
-use state::QoaDecoder;
+use decoder::QoaItem;
+use refusal::{Done, Refusal};
+use state::{FrameFacts, QoaDecoder};
 
+// What a call on a decoder gives, and the new place.
 #[derive(Clone, Copy)]
-pub struct DecodedAt {
+pub struct At<T> {
     pub at: usize,
-    pub done: DecodedInto,
+    pub done: Done<Result<T, Refusal>, QoaDecoder>,
 }
 
-#[derive(Clone, Copy)]
-pub struct FrameAt {
-    pub at: usize,
-    pub done: NextFrame,
-}
+// How many samples were decoded, and the place after them.
+pub type DecodedAt = At<usize>;
 
-#[derive(Clone, Copy)]
-pub struct ItemAt {
-    pub at: usize,
-    pub done: NextItem,
-}
-
-// The same state at another place.
-fn set_place(d: QoaDecoder, at: usize) -> QoaDecoder
-    ensures { result ≡ placed at d }
+// What is handed back of a call on the state d, set to the place: on a refusal both as they were given.
+fn handed_back<T: Copy>(
+    at: usize,
+    d: QoaDecoder,
+    done: Done<Result<T, Refusal>, QoaDecoder>,
+) -> At<T>
+    ensures { (rules : List Rule) (x : T) (v : View) → CallDone rules x (placed at d) v done → HandedDone rules x at d v result.at result.done }
 {
-    let mut state = d;
-    state.at = at;
-    state
+    match done.answer {
+        Err(why) => At {
+            at,
+            done: Done::refused(why, d),
+        },
+        Ok(_) => At {
+            at: done.state.at,
+            done,
+        },
+    }
 }
 
-pub fn decode_at(bytes: &[u8], at: usize, d: QoaDecoder, out: &mut [i16]) -> DecodedAt
+pub fn decode_at(bytes: &[u8], at: usize, d: QoaDecoder, out: &mut [i16]) -> At<usize>
     ensures { IntoRead bytes.now at d out.old result.at result.done out.new }
 {
-    let done = decoder::decode_into(set_place(d, at), bytes, out);
-    let answer = done.answer;
-    let state = done.state;
-    match answer {
-        CountAnswer::Refused(_) => DecodedAt {
-            at,
-            done: DecodedInto { answer, state: d },
-        },
-        CountAnswer::Count(_) => DecodedAt { at: state.at, done },
-    }
+    handed_back(
+        at,
+        d,
+        decoder::decode_into(QoaDecoder { at, ..d }, bytes, out),
+    )
 }
 
-pub fn next_frame_at(bytes: &[u8], at: usize, d: QoaDecoder) -> FrameAt
+pub fn next_frame_at(bytes: &[u8], at: usize, d: QoaDecoder) -> At<Option<FrameFacts>>
     ensures { FrameRead bytes.now at d result.at result.done }
 {
-    let done = decoder::next_frame(set_place(d, at), bytes);
-    let answer = done.answer;
-    let state = done.state;
-    match answer {
-        FrameAnswer::Refused(_) => FrameAt {
-            at,
-            done: NextFrame { answer, state: d },
-        },
-        _ => FrameAt { at: state.at, done },
-    }
+    handed_back(at, d, decoder::next_frame(QoaDecoder { at, ..d }, bytes))
 }
 
-pub fn next_item_at(bytes: &[u8], at: usize, d: QoaDecoder) -> ItemAt
+pub fn next_item_at(bytes: &[u8], at: usize, d: QoaDecoder) -> At<Option<QoaItem>>
     ensures { ItemRead bytes.now at d result.at result.done }
 {
-    let done = decoder::next_item(set_place(d, at), bytes);
-    let item = done.item;
-    let state = done.state;
-    match item {
-        QoaItem::Refused(_) => ItemAt {
-            at,
-            done: NextItem { item, state: d },
-        },
-        _ => ItemAt { at: state.at, done },
-    }
+    handed_back(at, d, decoder::next_item(QoaDecoder { at, ..d }, bytes))
 }

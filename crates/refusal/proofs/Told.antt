@@ -5,13 +5,12 @@ use mathlib.Core.List.{List, [], ◌∷◌}
 use mathlib.Core.Option.{none, some}
 use lib.Dec.{lit<}
 use lib.ListN.{get_or}
-use Rattle.refusal.specs.Rules.{Answer, good, refused}
-use Rattle.refusal.specs.Refusals.{number_of, told_checked, told_count, told_summary}
+use Rattle.std.specs.Prelude.{Result, Ok, Err}
+use Rattle.std.specs.Result.{IsErrAnd}
+use Rattle.refusal.specs.Rules.{good, refused}
+use Rattle.refusal.specs.Refusals.{number_of, told, told_refusal}
 use Rattle.refusal.specs.declared.Refusal.{Refusal}
 use Rattle.refusal.specs.declared.Refusal.TheVariants.{NotQoaFile, NoSamples, InvalidFrameHeader, IncompatibleFrame, Truncated, TooManyChannels, OutputTooSmall, BadState, InputTooLong, InvalidChannels, InvalidSampleRate, InvalidSamples, WeightRange}
-use Rattle.refusal.specs.declared.Checked as C
-use Rattle.refusal.specs.declared.CountAnswer as N
-use Rattle.refusal.specs.declared.SummaryAnswer as S
 
 -- the refusals by number; there is no 0 and no 10
 refusals : List Refusal
@@ -57,16 +56,19 @@ number_some WeightRange = lit< tt
 pub told_one : {A B : Type 0} (told : B → A) (back : A → B) → ((b : B) → back (told b) ≡ b) → (a b : B) → told a ≡ told b → a ≡ b
 told_one told back undone a b e = sym (undone a) ∙ ap back e ∙ undone b
 
--- the answer that tells a value, or a refusal's number
-abbrev pub answered : {A B : Type 0} → (A → B) → (Refusal → B) → Answer A → B
-answered value refusal (good x) = value x
-answered value refusal (refused n) = refusal (by_number n)
+-- what is told of an answer settles it
+pub told_lem : {A : Type 0} (a b : Result A Refusal) → told a ≡ told b → a ≡ b
+told_lem = told_one told (elim [ good x ↦ Ok x | refused n ↦ Err (by_number n) ]) (elim [ Ok x ↦ refl | Err r ↦ ap (λ n. Err n) (number_back r) ])
 
-pub told_checked_lem : (a b : C.Checked) → told_checked a ≡ told_checked b → a ≡ b
-told_checked_lem = told_one told_checked (elim [ none ↦ C.TheVariants.Passed | some n ↦ C.TheVariants.Refused (by_number n) ]) (elim [ C.TheVariants.Passed ↦ refl | C.TheVariants.Refused r ↦ ap C.TheVariants.Refused (number_back r) ])
+pub told_refusal_lem : (a b : Result Unit Refusal) → told_refusal a ≡ told_refusal b → a ≡ b
+told_refusal_lem = told_one told_refusal (elim [ none ↦ Ok tt | some n ↦ Err (by_number n) ]) (elim [ Ok u ↦ refl | Err r ↦ ap (λ n. Err n) (number_back r) ])
 
-pub told_count_lem : (a b : N.CountAnswer) → told_count a ≡ told_count b → a ≡ b
-told_count_lem = told_one told_count (answered N.TheVariants.Count N.TheVariants.Refused) (elim [ N.TheVariants.Count n ↦ refl | N.TheVariants.Refused r ↦ ap N.TheVariants.Refused (number_back r) ])
+-- ---- what the exit of a `?` hands on: the refusal that it met
 
-pub told_summary_lem : (a b : S.SummaryAnswer) → told_summary a ≡ told_summary b → a ≡ b
-told_summary_lem = told_one told_summary (answered S.TheVariants.Known S.TheVariants.Refused) (elim [ S.TheVariants.Known s ↦ refl | S.TheVariants.Refused r ↦ ap S.TheVariants.Refused (number_back r) ])
+pub exit_told : {A : Type 0} (a : Result A Refusal) (r : Refusal) → IsErrAnd a (λ q. q ≡ r) → told a ≡ refused (number_of r)
+exit_told (Ok x) r e = absurd e
+exit_told (Err q) r e = ap (λ (s : Refusal). refused (number_of s)) e
+
+pub exit_refusal : {A : Type 0} (a : Result A Refusal) (r : Refusal) → IsErrAnd a (λ q. q ≡ r) → told_refusal a ≡ some (number_of r)
+exit_refusal (Ok x) r e = absurd e
+exit_refusal (Err q) r e = ap (λ (s : Refusal). some (number_of s)) e

@@ -1,6 +1,6 @@
 #![tactic(auto)]
 
-// The refusals with their numbers, and the shapes of answers that several calls share: nothing, a count or a summary, or else a refusal.
+// The refusals with their numbers, and the shapes of answers that several calls share.
 ghost use Rattle.std.specs.Prelude.{◌≡◌};
 ghost use Rattle.refusal.specs.Refusals.{number_of};
 
@@ -22,18 +22,23 @@ pub enum Refusal {
     WeightRange,
 }
 
-// The end of a list of checks: none refuses, or the first that does.
+// What a call answers, and the state that it hands back: on a refusal the one that it was given, or the all-zero one where it was given none.
 #[derive(Clone, Copy)]
-pub enum Checked {
-    Passed,
-    Refused(Refusal),
+pub struct Done<A, S> {
+    pub answer: A,
+    pub state: S,
 }
 
-// How many there are: bytes, samples, or a total.
-#[derive(Clone, Copy)]
-pub enum CountAnswer {
-    Count(usize),
-    Refused(Refusal),
+impl<T, E, S> Done<Result<T, E>, S> {
+    // A refusal, with a state.
+    pub fn refused(why: E, state: S) -> Self
+        ensures { (result.answer ≡ Err why) × (result.state ≡ state) }
+    {
+        Done {
+            answer: Err(why),
+            state,
+        }
+    }
 }
 
 // A file's channels and rate, and how many samples it has over all channels.
@@ -44,30 +49,25 @@ pub struct Summary {
     pub count: usize,
 }
 
-// What is known of a file.
-#[derive(Clone, Copy)]
-pub enum SummaryAnswer {
-    Known(Summary),
-    Refused(Refusal),
-}
+// The number of a refusal. kept: number by number, as document 01's table has them, and two edits change one each.
+impl From<Refusal> for u8 {
+    ghost from_gives = { λ r n. n ≡ number_of r };
 
-// The number of a refusal.
-pub fn number(refusal: Refusal) -> u8
-    ensures { result ≡ number_of refusal }
-{
-    match refusal {
-        Refusal::NotQoaFile => 1,
-        Refusal::NoSamples => 2,
-        Refusal::InvalidFrameHeader => 3,
-        Refusal::IncompatibleFrame => 4,
-        Refusal::Truncated => 5,
-        Refusal::TooManyChannels => 6,
-        Refusal::OutputTooSmall => 7,
-        Refusal::BadState => 8,
-        Refusal::InputTooLong => 9,
-        Refusal::InvalidChannels => 11,
-        Refusal::InvalidSampleRate => 12,
-        Refusal::InvalidSamples => 13,
-        Refusal::WeightRange => 14,
+    fn from(refusal: Refusal) -> u8 {
+        match refusal {
+            Refusal::NotQoaFile => 1,
+            Refusal::NoSamples => 2,
+            Refusal::InvalidFrameHeader => 3,
+            Refusal::IncompatibleFrame => 4,
+            Refusal::Truncated => 5,
+            Refusal::TooManyChannels => 6,
+            Refusal::OutputTooSmall => 7,
+            Refusal::BadState => 8,
+            Refusal::InputTooLong => 9,
+            Refusal::InvalidChannels => 11,
+            Refusal::InvalidSampleRate => 12,
+            Refusal::InvalidSamples => 13,
+            Refusal::WeightRange => 14,
+        }
     }
 }

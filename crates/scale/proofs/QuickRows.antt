@@ -3,7 +3,8 @@
 use Rattle.std.proofs.Common.{◌≡◌, ℕ, zero, suc, ◌+◌, ◌-◌, ◌*◌, ◌/◌, ◌%◌, ◌^◌, ◌<◌, ◌≤◌, min, Bool, true, false, cond, not, T, ltb, List, [], length, get_or, take, drop, ℤ, pos, negsuc, ◌+ℤ◌, ◌-ℤ◌, sym, refl, ap, ◌∙◌, zero-mul, arith, ltb→lt, nltb→le, length-drop, length-take-le, get_or-drop, get_or-take, w32, to_z, ltb-true}
 use lib.Signed.{shr_z}
 use Rattle.wrap.proofs.Integers.{read_neg, read_pos}
-use Rattle.wrap.proofs.Linear.{add_parts, dn, minus_parts, up}
+use borrow.Author.Differences.{up, down}
+use Rattle.std.proofs.lemmas.Int.{ints}
 use Rattle.wrap.specs.Wrap.{modulo}
 use Rattle.scale.specs.Tables.{factor_of, factors, reciprocal_of, row_of}
 use Rattle.scale.specs.Division.{code_for, codes, divided_by, place_of, shifted, sign_of}
@@ -47,13 +48,13 @@ settle f g p q e n =
     (agree (λ m. get_or quick_codes (f m) 0) (λ m. get_or codes (g m) 0) 12 e n)
     (λ more. rw (p n more, q n more) (agree (λ m. get_or quick_codes (f m) 0) (λ m. get_or codes (g m) 0) 12 e 11 (omega arith)))
 
-place_parts : (z : ℤ) → place_of z ≡ min (8 + up z - dn z) 16
+place_parts : (z : ℤ) → place_of z ≡ min (8 + up z - down z) 16
 unfolding place_of
 place_parts (pos n) = omega arith
 place_parts (negsuc n) = omega arith
 
-quotient_place : (n v s : ℤ) → place_of (n +ℤ v -ℤ s) ≡ min (8 + (up n + up v + dn s) - (dn n + dn v + up s)) 16
-quotient_place n v s = omega (arith, place_parts (n +ℤ v -ℤ s), add_parts n v, minus_parts (n +ℤ v) s)
+quotient_place : (n v s : ℤ) → place_of (n +ℤ v -ℤ s) ≡ min (8 + (up n + up v + down s) - (down n + down v + up s)) 16
+quotient_place n v s = omega (arith, ints, place_parts (n +ℤ v -ℤ s))
 
 -- a residual that is not 0, by its sign and the product's
 up_up : (n : ℕ) → get_or quick_codes (min (n + 7) 15) 0 ≡ get_or codes (min (8 + (n + 1) - min n 1) 16) 0
@@ -73,7 +74,7 @@ unfolding quick_codes codes
 down_down = settle (λ n. 17 + (6 - n + 16 * min (n - 6) 1)) (λ n. 8 - suc n) (λ n more. omega arith) (λ n more. omega arith) refl
 
 -- the sign of a product from 0 up
-sign_parts : (n : ℕ) → (up (sign_of (pos n)) ≡ min n 1) × (dn (sign_of (pos n)) ≡ 0)
+sign_parts : (n : ℕ) → (up (sign_of (pos n)) ≡ min n 1) × (down (sign_of (pos n)) ≡ 0)
 unfolding sign_of
 sign_parts zero = (refl, refl)
 sign_parts (suc n) = (omega arith, refl)

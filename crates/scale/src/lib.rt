@@ -2,13 +2,16 @@
 
 // The tables, and the division by a scale factor.
 mod quick;
+mod rows;
 
 ghost use Rattle.std.specs.Prelude.{◌≡◌, ◌<◌, pos};
 ghost use Rattle.scale.specs.Tables.{reciprocal_of};
-ghost use Rattle.scale.specs.Division.{code_for, divided_by, sign_of};
-ghost use Rattle.scale.specs.Parts.{dequant_tab, reciprocal_tab};
+ghost use Rattle.scale.specs.Division.{code_for, divided_by};
+ghost use Rattle.scale.specs.Parts.{dequant_tab};
 
-pub use quick::{quick_code, quick_codes, quick_tab, quick_value};
+pub use quick::{Coded, Coder, Coding, QuickRow, QuickTables, quick_tables};
+pub use rows::{Dequant, Row};
+use wrap::TwosComplement;
 
 // The encoder's code of each quotient from -8 to 8.
 const QOA_QUANT_TAB: [u8; 17] = [7, 7, 7, 5, 5, 3, 3, 1, 0, 0, 2, 2, 4, 4, 6, 6, 6];
@@ -38,7 +41,8 @@ const QOA_DEQUANT_TAB: [[i32; 8]; 16] = [
     [1536, -1536, 5120, -5120, 9216, -9216, 14336, -14336],
 ];
 
-// The reciprocal of a scale factor, for the plain division below; the search takes `reciprocals`.
+// The reciprocal of a scale factor, for the plain division below; the search has all of them in its tables. kept: `sf < 16` is a clause
+// where a number comes from outside (here, `qoa_div`, `quick_code`) or makes a row; a `Row` has it as an invariant.
 pub fn reciprocal(sf: usize) -> i32
     requires { sf < 16 }
     ensures { result ≡ pos (reciprocal_of sf) }
@@ -46,30 +50,12 @@ pub fn reciprocal(sf: usize) -> i32
     QOA_RECIPROCAL_TAB[sf]
 }
 
-// All of them. A caller holds them as it holds the table.
-pub fn reciprocals() -> [i32; 16]
-    ensures { result ≡ reciprocal_tab }
-{
-    QOA_RECIPROCAL_TAB
-}
-
 // The whole table. A caller holds it for a frame, since a constant is built anew at each use.
-pub fn dequant_tab() -> [[i32; 8]; 16]
-    ensures { result ≡ dequant_tab }
+pub fn dequant_tab() -> Dequant
+    ensures { result.rows ≡ dequant_tab }
 {
-    QOA_DEQUANT_TAB
-}
-
-// 1, 0 or -1: the signs of the plain division.
-pub fn sign(x: i32) -> i32
-    ensures { result ≡ sign_of x }
-{
-    if x < 0 {
-        -1
-    } else if x == 0 {
-        0
-    } else {
-        1
+    Dequant {
+        rows: QOA_DEQUANT_TAB,
     }
 }
 
@@ -81,19 +67,14 @@ pub fn qoa_div(v: i32, sf: usize) -> i32
     ensures { result ≡ divided_by v sf }
 {
     let product = wrap::wrapping_mul(v, reciprocal(sf));
-    let n = wrap::signed(std::num::wrapping_add_u32(product, 32768)) >> 16;
-    n + sign(v) - sign(n)
+    let n = i32::signed(product.wrapping_add(32768)) >> 16;
+    n + v.signum() - n.signum()
 }
 
 // The code of a quotient, in the plain form: a clamp and a look-up. Only the comparison with the source (tools/leaves) runs it.
 pub fn code(quotient: i32) -> u8
     ensures { result ≡ code_for quotient }
 {
-    if quotient < -8 {
-        return QOA_QUANT_TAB[0];
-    }
-    if 8 < quotient {
-        return QOA_QUANT_TAB[16];
-    }
-    QOA_QUANT_TAB[(quotient + 8) as usize]
+    let place = quotient.clamp(-8, 8) + 8;
+    QOA_QUANT_TAB[place as usize]
 }

@@ -1,14 +1,14 @@
 -- What a slice's row and its gains hold at one of its codes, for the loops that store. Assumes nothing.
 use mathlib.Core.Path.{◌≡◌, ap, ap₂, ◌∙◌}
 use mathlib.Core.List.{List, []}
-use Prim.Native.Nat.{ℕ, ◌^◌, ◌≤◌, ◌<◌}
+use Prim.Native.Nat.{ℕ, ◌≤◌, ◌<◌}
 use native.Mathlib.Nat.{mod-lt}
 use lib.Dec.{lit<}
 use lib.IntN.{ℤ, nat_abs}
 use lib.ListN.{get_or}
-use lib.Signed.{mag}
+use mir.Facts.{to_z-of_z}
 use mir.Syntax.{w32}
-use Rattle.wrap.proofs.Integers.{reread, returned}
+use Rattle.wrap.proofs.Integers.{fits_abs, reread}
 use Rattle.word.specs.Word.{code_of, scale_of}
 use Rattle.ahead.specs.Parts.{gains_of, SmallGains}
 use Rattle.lms.specs.Predictor.{at}
@@ -23,9 +23,9 @@ module _ (word i : ℕ) {code : ℕ} (code_is : code ≡ code_of word i) where
   code_lt = rw code_is (mod-lt _ (lit< tt))
 
   -- the table value, as the machine holds it
-  module _ {row : List ℤ} (row_is : row ≡ row_of (scale_of word)) (fits : mag (at row code) < 2 ^ 31) where
+  module _ {row : List ℤ} (row_is : row ≡ row_of (scale_of word)) where
     pub value_there : reread w32 (at row code) ≡ residual_at word i
-    value_there = returned w32 _ fits (ap₂ at row_is code_is)
+    value_there = ap₂ (λ (l : List ℤ) (k : ℕ). reread w32 (at l k)) row_is code_is ∙ to_z-of_z {w = w32} (fits_abs _ (residual_small word i) (lit< tt))
 
     pub value_small : nat_abs (reread w32 (at row code)) ≤ 14336
     value_small = rw value_there (residual_small word i)

@@ -1,14 +1,12 @@
 -- One sample more of a slice, for the loops that store. Assumes nothing.
-use mathlib.Core.Path.{◌≡◌, ap, sym, ◌∙◌}
+use mathlib.Core.Path.{◌≡◌}
 use mathlib.Core.List.{List}
 use Prim.Native.Nat.{ℕ, ◌+◌, ◌*◌}
 use native.Mathlib.Numerals.{add-one}
 use lib.IntN.{ℤ, ◌+ℤ◌}
 use lib.ListN.{set}
 use Rattle.word.specs.Parts.{written}
-use Rattle.ahead.specs.Parts.{ahead_of}
 use Rattle.lms.specs.Predictor.{clamp16, predicted, updated}
-use Rattle.ahead.specs.declared.Ahead.{Ahead}
 use Rattle.lms.specs.declared.QoaLms.{QoaLms}
 use Rattle.trial.specs.Trial.{heard, sample_of}
 use Rattle.slice.specs.Slice.{residual_at, sample_at, state_after}
@@ -19,11 +17,3 @@ pub heard_next : (w : ℕ) (s : QoaLms) (o : List ℤ) (start stride i : ℕ) (s
     → HeardTo w s o start stride i state out → HeardTo w s o start stride (i + 1) (updated state x (residual_at w i)) (set out (start + i * stride) x)
 unfolding state_after sample_at written heard sample_of
 heard_next w s o start stride i state out x x-is so_far = (rw (add-one, x-is, so_far.0), rw (add-one, x-is, so_far.0, so_far.1))
-
--- a loop's predictor is the one it was made ready of, and holds its own older sum
-pub ahead_lms : {a : Ahead} (lms : QoaLms) → a ≡ ahead_of lms → a.lms ≡ lms
-unfolding ahead_of
-ahead_lms lms e = ap (λ (b : Ahead). b.lms) e
-
-pub ahead_own : {a : Ahead} (lms : QoaLms) → a ≡ ahead_of lms → a ≡ ahead_of a.lms
-ahead_own lms e = e ∙ ap ahead_of (sym (ahead_lms lms e))

@@ -1,42 +1,36 @@
 #![tactic(auto)]
 
 // A slice, decoded into lent samples. `tab` is the dequantising table, which a caller holds for a whole frame.
+// kept: `out`, `start` and `stride` are three parameters: the memory is changed in place, and `written` speaks of both numbers.
 ghost use Rattle.std.specs.Prelude.{◌≡◌, ℕ, ◌+◌, ◌*◌, ◌^◌, ◌≤◌, ◌<◌, List, ℤ, length};
 ghost use Rattle.format.specs.Format.{slice_len};
 ghost use Rattle.word.specs.Word.{code_of, scale_of};
 ghost use Rattle.word.specs.Parts.{written};
-ghost use Rattle.lms.specs.Predictor.{at};
 ghost use Rattle.lms.specs.declared.QoaLms.{QoaLms};
 ghost use Rattle.scale.specs.Tables.{row_of};
 ghost use Rattle.trial.specs.Trial.{heard};
 ghost use Rattle.slice.specs.Slice.{residual_at, sample_at, state_after};
 ghost use Rattle.lms.specs.Parts.{WeightsWithin};
 ghost use Rattle.slice.specs.Parts.{GainsOf, HeardTo};
-ghost use Rattle.scale.specs.Parts.{dequant_tab};
 
 use format::frame::QOA_SLICE_LEN;
 use lms::QoaLms;
+use scale::Dequant;
 use trial::Heard;
 
-// The table value of the i-th code of a word, by a row of the table.
-fn value_at(row: &[i32; 8], word: u64, i: usize) -> i32
-    requires { i < slice_len }
-    ensures { result ≡ at row.now (code_of word i) }
-{
-    let code = word::code(word, i);
-    row[code]
-}
-
-// The i-th sample of a slice, whose row of the table is handed in.
-fn hear_code(row: &[i32; 8], lms: QoaLms, word: u64, i: usize) -> Heard
-    requires row { row.now ≡ row_of (scale_of word) }
-    requires small { (WeightsWithin (2 ^ 30) lms) × (i < slice_len) }
-    ensures { result ≡ heard lms (residual_at word i) }
-{
-    trial::hear(lms, value_at(row, word, i))
+// A slice to be heard: what a weight gains by each value of the row of its scale factor, that row, and the word. The gains stand first:
+// the loops reach them by one sum less.
+#[derive(Clone, Copy)]
+struct SliceWord {
+    gains: [[i32; 2]; 8],
+    row: [i32; 8],
+    word: u64,
+    ghost own_row: { row ≡ row_of (scale_of word) },
+    ghost own_gains: { GainsOf gains (row_of (scale_of word)) },
 }
 
 // What a weight gains by each table value of a row.
+// kept: written out, since `row.map(ahead::gains)` was not proved: what `map` asks of that function stays open.
 fn gains_of(row: [i32; 8]) -> [[i32; 2]; 8]
     ensures { GainsOf result row }
 {
@@ -67,116 +61,7 @@ fn drop_codes(word: u64, n: usize) -> u64
     word << (3 * n)
 }
 
-// The quiet loop: the samples of a slice from one on to another, up to the first that is to be clamped. A sum of 16 bits is its own clamp.
-fn hear_quiet(
-    row: &[i32; 8],
-    gains: &[[i32; 2]; 8],
-    lms: QoaLms,
-    word: u64,
-    out: &mut [i16],
-    start: usize,
-    stride: usize,
-    from: usize,
-    to: usize,
-) -> Part
-    requires row { row.now ≡ row_of (scale_of word) }
-    requires gains { GainsOf gains.now (row_of (scale_of word)) }
-    requires small { (WeightsWithin (2 ^ 29 + 17920) lms) × (from ≤ to) × (to ≤ slice_len) }
-    requires room { (i : ℕ) → i < to → start + i * stride < length out.old }
-    ensures done { result.done ≤ to }
-    ensures heard { (s : QoaLms) (o : List ℤ) → HeardTo word s o start stride from lms out.old → HeardTo word s o start stride result.done result.lms out.new }
-{
-    let rest = drop_codes(word, from);
-    let mut state = ahead::ready(lms);
-    for i in from..to {
-        let code = word::code(rest, i - from);
-        let value = row[code];
-        let sum = ahead::sum_ahead(state, value);
-        if !lms::is_short(sum) {
-            let left = state.lms;
-            return Part { done: i, lms: left };
-        }
-        out[start + i * stride] = sum as i16;
-        state = ahead::advance(state, sum, &gains[code]);
-    }
-    let after = state.lms;
-    Part {
-        done: to,
-        lms: after,
-    }
-}
-
-// The quiet loop from a slice's start, four samples at a time: the compiler writes four out, and no number has to move.
-fn hear_fours(
-    row: &[i32; 8],
-    gains: &[[i32; 2]; 8],
-    lms: QoaLms,
-    word: u64,
-    out: &mut [i16],
-    start: usize,
-    stride: usize,
-    fours: usize,
-) -> Part
-    requires row { row.now ≡ row_of (scale_of word) }
-    requires gains { GainsOf gains.now (row_of (scale_of word)) }
-    requires small { (WeightsWithin (2 ^ 29) lms) × (4 * fours ≤ slice_len) }
-    requires room { (i : ℕ) → i < 4 * fours → start + i * stride < length out.old }
-    ensures done { result.done ≤ 4 * fours }
-    ensures heard { HeardTo word lms out.old start stride result.done result.lms out.new }
-{
-    let mut part = Part { done: 0, lms };
-    for k in 0..fours {
-        let state = part.lms;
-        part = hear_quiet(
-            row,
-            gains,
-            state,
-            word,
-            out,
-            start,
-            stride,
-            4 * k,
-            4 * k + 4,
-        );
-        if part.done < 4 * k + 4 {
-            return part;
-        }
-    }
-    part
-}
-
-// The loud loop: every sample of a slice from one on is clamped.
-fn hear_loud(
-    row: &[i32; 8],
-    gains: &[[i32; 2]; 8],
-    lms: QoaLms,
-    word: u64,
-    out: &mut [i16],
-    start: usize,
-    stride: usize,
-    from: usize,
-    count: usize,
-) -> QoaLms
-    requires row { row.now ≡ row_of (scale_of word) }
-    requires gains { GainsOf gains.now (row_of (scale_of word)) }
-    requires small { (WeightsWithin (2 ^ 29 + 17920) lms) × (from ≤ count) × (count ≤ slice_len) }
-    requires room { (i : ℕ) → i < count → start + i * stride < length out.old }
-    ensures { (s : QoaLms) (o : List ℤ) → HeardTo word s o start stride from lms out.old → HeardTo word s o start stride count result out.new }
-{
-    let mut state = ahead::ready(lms);
-    let mut rest = drop_codes(word, from);
-    for i in from..count {
-        let code = word::code(rest, 0);
-        let value = row[code];
-        let sample = ahead::clamped_ahead(state, value);
-        out[start + i * stride] = sample as i16;
-        state = ahead::advance(state, sample, &gains[code]);
-        rest = drop_codes(rest, 1);
-    }
-    state.lms
-}
-
-// 1 where a number is at an end of the 16-bit range.
+// 1 where a number is at an end of the 16-bit range. kept: a number, since one test of the sum then serves all four.
 fn at_end(x: i32) -> usize
     ensures { result ≤ 1 }
 {
@@ -195,48 +80,154 @@ fn fours_to_try(lms: QoaLms, count: usize) -> usize
     if ends == 0 { count / 4 } else { 0 }
 }
 
-// The first `count` samples of a slice, stored at start, start + stride, ..: by the quiet loop as far as it goes, then by the loud one.
-fn hear_stored(
-    row: &[i32; 8],
-    gains: &[[i32; 2]; 8],
-    lms: QoaLms,
-    word: u64,
-    out: &mut [i16],
-    start: usize,
-    stride: usize,
-    count: usize,
-) -> QoaLms
-    requires row { row.now ≡ row_of (scale_of word) }
-    requires gains { GainsOf gains.now (row_of (scale_of word)) }
-    requires small { (WeightsWithin (2 ^ 29) lms) × (count ≤ slice_len) }
-    requires room { (i : ℕ) → i < count → start + i * stride < length out.old }
-    ensures state { result ≡ state_after word lms count }
-    ensures samples { out.new ≡ written (sample_at word lms) out.old start stride count }
-{
-    let fours = fours_to_try(lms, count);
-    let part = hear_fours(row, gains, lms, word, out, start, stride, fours);
-    let done = part.done;
-    let state = part.lms;
-    hear_loud(row, gains, state, word, out, start, stride, done, count)
-}
-
-// The samples of a slice from one on, heard and not stored, for the predictor's sake.
-fn hear_rest(row: &[i32; 8], lms: QoaLms, word: u64, from: usize) -> QoaLms
-    requires row { row.now ≡ row_of (scale_of word) }
-    requires small { (WeightsWithin (2 ^ 29 + 17920) lms) × (from ≤ slice_len) }
-    ensures { (s : QoaLms) → lms ≡ state_after word s from → result ≡ state_after word s slice_len }
-{
-    let mut state = lms;
-    for i in from..QOA_SLICE_LEN {
-        let heard = hear_code(row, state, word, i);
-        state = heard.lms;
+impl SliceWord {
+    // The slice of a word, with its row of the table copied by value.
+    fn new(tab: &Dequant, word: u64) -> SliceWord
+        ensures { result.word ≡ word }
+    {
+        let own = tab.row(word::scale_factor(word));
+        let row = own.values;
+        let gains = gains_of(row);
+        SliceWord { word, row, gains }
     }
-    state
+
+    // Its i-th sample.
+    fn hear(&self, lms: QoaLms, i: usize) -> Heard
+        requires { (WeightsWithin (2 ^ 30) lms) × (i < slice_len) }
+        ensures { result ≡ heard lms (residual_at self.now.word i) }
+    {
+        let code = word::code(self.word, i);
+        trial::hear(lms, self.row[code])
+    }
+
+    // kept: the three loops below count by hand, a form that was chosen by its times (docs/notes/speed-trials.md).
+
+    // The quiet loop: the samples of a slice from one on to another, up to the first that is to be clamped. A sum of 16 bits is its own clamp.
+    fn hear_quiet(
+        &self,
+        lms: QoaLms,
+        out: &mut [i16],
+        start: usize,
+        stride: usize,
+        from: usize,
+        to: usize,
+    ) -> Part
+        requires small { (WeightsWithin (2 ^ 29 + 17920) lms) × (from ≤ to) × (to ≤ slice_len) }
+        requires room { (i : ℕ) → i < to → start + i * stride < length out.old }
+        ensures done { result.done ≤ to }
+        ensures heard { (s : QoaLms) (o : List ℤ) → HeardTo self.now.word s o start stride from lms out.old → HeardTo self.now.word s o start stride result.done result.lms out.new }
+    {
+        let rest = drop_codes(self.word, from);
+        let mut state = ahead::ready(lms);
+        for i in from..to {
+            let code = word::code(rest, i - from);
+            let value = self.row[code];
+            let sum = ahead::sum_ahead(state, value);
+            if !lms::is_short(sum) {
+                let left = state.lms;
+                return Part { done: i, lms: left };
+            }
+            out[start + i * stride] = sum as i16;
+            state = ahead::advance(state.lms, sum, &self.gains[code]);
+        }
+        let after = state.lms;
+        Part {
+            done: to,
+            lms: after,
+        }
+    }
+
+    // The quiet loop from a slice's start, four samples at a time: the compiler writes four out, and no number has to move.
+    fn hear_fours(
+        &self,
+        lms: QoaLms,
+        out: &mut [i16],
+        start: usize,
+        stride: usize,
+        fours: usize,
+    ) -> Part
+        requires small { (WeightsWithin (2 ^ 29) lms) × (4 * fours ≤ slice_len) }
+        requires room { (i : ℕ) → i < 4 * fours → start + i * stride < length out.old }
+        ensures done { result.done ≤ 4 * fours }
+        ensures heard { HeardTo self.now.word lms out.old start stride result.done result.lms out.new }
+    {
+        let mut part = Part { done: 0, lms };
+        for k in 0..fours {
+            let state = part.lms;
+            part = self.hear_quiet(state, out, start, stride, 4 * k, 4 * k + 4);
+            if part.done < 4 * k + 4 {
+                return part;
+            }
+        }
+        part
+    }
+
+    // The loud loop: every sample of a slice from one on is clamped.
+    fn hear_loud(
+        &self,
+        lms: QoaLms,
+        out: &mut [i16],
+        start: usize,
+        stride: usize,
+        from: usize,
+        count: usize,
+    ) -> QoaLms
+        requires small { (WeightsWithin (2 ^ 29 + 17920) lms) × (from ≤ count) × (count ≤ slice_len) }
+        requires room { (i : ℕ) → i < count → start + i * stride < length out.old }
+        ensures { (s : QoaLms) (o : List ℤ) → HeardTo self.now.word s o start stride from lms out.old → HeardTo self.now.word s o start stride count result out.new }
+    {
+        let mut state = ahead::ready(lms);
+        let mut rest = drop_codes(self.word, from);
+        for i in from..count {
+            let code = word::code(rest, 0);
+            let value = self.row[code];
+            let sample = ahead::clamped_ahead(state, value);
+            out[start + i * stride] = sample as i16;
+            state = ahead::advance(state.lms, sample, &self.gains[code]);
+            rest = drop_codes(rest, 1);
+        }
+        state.lms
+    }
+
+    // The first `count` samples of a slice, stored at start, start + stride, ..: by the quiet loop as far as it goes, then by the loud one.
+    fn hear_stored(
+        &self,
+        lms: QoaLms,
+        out: &mut [i16],
+        start: usize,
+        stride: usize,
+        count: usize,
+    ) -> QoaLms
+        requires small { (WeightsWithin (2 ^ 29) lms) × (count ≤ slice_len) }
+        requires room { (i : ℕ) → i < count → start + i * stride < length out.old }
+        ensures state { result ≡ state_after self.now.word lms count }
+        ensures samples { out.new ≡ written (sample_at self.now.word lms) out.old start stride count }
+    {
+        let fours = fours_to_try(lms, count);
+        let part = self.hear_fours(lms, out, start, stride, fours);
+        let done = part.done;
+        let state = part.lms;
+        self.hear_loud(state, out, start, stride, done, count)
+    }
+
+    // The samples of a slice from one on, heard and not stored, for the predictor's sake.
+    fn hear_rest(&self, lms: QoaLms, from: usize) -> QoaLms
+        requires small { (WeightsWithin (2 ^ 29 + 17920) lms) × (from ≤ slice_len) }
+        ensures { (s : QoaLms) → lms ≡ state_after self.now.word s from → result ≡ state_after self.now.word s slice_len }
+    {
+        let mut state = lms;
+        // kept: i counts the codes of the word, which are no list.
+        for i in from..QOA_SLICE_LEN {
+            let heard = self.hear(state, i);
+            state = heard.lms;
+        }
+        state
+    }
 }
 
 // A slice of one channel: its first `count` samples are stored, and the predictor runs over all twenty.
 pub fn decode_slice(
-    tab: &[[i32; 8]; 16],
+    tab: &Dequant,
     lms: QoaLms,
     word: u64,
     out: &mut [i16],
@@ -244,15 +235,12 @@ pub fn decode_slice(
     stride: usize,
     count: usize,
 ) -> QoaLms
-    requires table { tab.now ≡ dequant_tab }
     requires small { (WeightsWithin (2 ^ 29) lms) × (count ≤ slice_len) }
     requires room { (i : ℕ) → i < count → start + i * stride < length out.old }
     ensures state { result ≡ state_after word lms slice_len }
     ensures samples { out.new ≡ written (sample_at word lms) out.old start stride count }
 {
-    let sf = word::scale_factor(word);
-    let row = tab[sf];
-    let gains = gains_of(row);
-    let state = hear_stored(&row, &gains, lms, word, out, start, stride, count);
-    hear_rest(&row, state, word, count)
+    let slice = SliceWord::new(tab, word);
+    let state = slice.hear_stored(lms, out, start, stride, count);
+    slice.hear_rest(state, count)
 }

@@ -1,4 +1,5 @@
 -- What the proofs of this crate and of those above it cite.
+pub mod Alls
 pub mod Bounds
 pub mod Views
 pub mod GoodStates

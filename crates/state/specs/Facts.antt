@@ -1,16 +1,13 @@
 -- A decoder's facts. Assumes nothing.
 use Rattle.std.specs.Prelude.{ℕ, not, [], ◌∷◌}
-use Rattle.refusal.specs.Rules.{Answer, good, refused, ◌gives◌, after}
+use Rattle.refusal.specs.Rules.{Answer, good, ◌gives◌, after}
 use Rattle.format.specs.Facts.{facts_of}
-use Rattle.refusal.specs.Refusals.{number_of}
 use Rattle.format.specs.declared.facts.Facts.{Facts}
 use Rattle.state.specs.View.{View}
 use Rattle.state.specs.States.{good_state}
 use Rattle.state.specs.declared.FrameFacts.{FrameFacts}
 use Rattle.state.specs.declared.ProcessingMode.{ProcessingMode}
 use Rattle.state.specs.declared.ProcessingMode.TheVariants.{FixedSamples, Streaming}
-use Rattle.state.specs.declared.FactsAnswer.{FactsAnswer}
-use Rattle.state.specs.declared.FactsAnswer.TheVariants.{Known, Refused}
 
 -- fixed: the total, with the first frame's channels and rate; streaming: no total, with the current frame's
 unfoldable pub facts_for : ProcessingMode → FrameFacts → Facts
@@ -20,8 +17,3 @@ facts_for Streaming frame = facts_of 0 frame.channels frame.rate
 -- 8 first; else the facts
 unfoldable pub facts_answer : View → ℕ → Answer Facts
 facts_answer v bytes = after ((not (good_state v bytes) gives 8) ∷ []) (good (facts_for v.mode v.frame))
-
--- what the code's answer tells
-abbrev pub told_facts : FactsAnswer → Answer Facts
-told_facts (Known f) = good f
-told_facts (Refused r) = refused (number_of r)

@@ -1,18 +1,19 @@
 #![tactic(auto)]
 
 // A decoder's state by value, its rules, opening it, and its facts.
-use format::facts::Facts;
-use format::frame::{QOA_MAX_CHANNELS, QOA_SLICE_LEN};
+ghost use Rattle.std.specs.Prelude.{◌≡◌};
+ghost use Rattle.state.specs.View.{facts_in};
+
+use format::frame::{FrameHeader, QOA_MAX_CHANNELS, QOA_SLICE_LEN};
 use lms::QoaLms;
-use refusal::Refusal;
+use refusal::{Done, Refusal};
 
 pub mod facts;
 pub mod opening;
 pub mod rules;
 
 pub use facts::facts_given;
-pub use opening::{frame_facts, open_decoder, zero_state};
-use refusal::Checked;
+pub use opening::{open_decoder, zero_state};
 pub use rules::is_good;
 
 // One slice of every channel.
@@ -37,6 +38,19 @@ pub struct FrameFacts {
     pub samples: u16,
 }
 
+// What a frame's header tells of it.
+impl From<FrameHeader> for FrameFacts {
+    ghost from_gives = { λ h f. f ≡ facts_in h };
+
+    fn from(h: FrameHeader) -> FrameFacts {
+        FrameFacts {
+            channels: h.channels,
+            rate: h.rate,
+            samples: h.samples,
+        }
+    }
+}
+
 #[derive(Clone, Copy)]
 pub struct QoaDecoder {
     pub mode: ProcessingMode,
@@ -46,7 +60,7 @@ pub struct QoaDecoder {
     pub frame: FrameFacts,
     // samples per channel that its slices still hold
     pub remaining: u16,
-    // the pending samples are those from `next` to `end`
+    // the pending samples are those from `next` to `end`. kept: two numbers, which definitions and the block name
     pub next: usize,
     pub end: usize,
     // whether the first header was given
@@ -55,15 +69,5 @@ pub struct QoaDecoder {
     pub pending: [i16; PENDING],
 }
 
-#[derive(Clone, Copy)]
-pub struct OpenedDecoder {
-    pub answer: Checked,
-    pub state: QoaDecoder,
-}
-
-// A decoder's facts.
-#[derive(Clone, Copy)]
-pub enum FactsAnswer {
-    Known(Facts),
-    Refused(Refusal),
-}
+// Nothing or the refusal, and the state at the start of a file.
+pub type OpenedDecoder = Done<Result<(), Refusal>, QoaDecoder>;

@@ -1,40 +1,24 @@
 // Opening a decoder.
 ghost use Rattle.std.specs.Prelude.{◌≡◌, ◌+◌, ◌*◌, ◌≤◌, length};
+ghost use Rattle.std.specs.Result.{MatchResult};
+ghost use mathlib.Core.Option.{none, some};
 ghost use Rattle.refusal.specs.Rules.{after, first_of, good};
 ghost use Rattle.format.specs.FileHeader.{total_of};
 ghost use Rattle.format.specs.Format.{max_channels, state_end};
 ghost use Rattle.format.specs.Header.{header_at};
-ghost use Rattle.state.specs.View.{facts_in, view};
-ghost use Rattle.refusal.specs.declared.Checked.TheVariants.{Refused};
-ghost use Rattle.state.specs.Opening.{OpenLeaves, first_rules, open_rules, opened_fixed, opened_stream, zero_state};
-ghost use Rattle.refusal.specs.Refusals.{told_checked};
-ghost use Rattle.format.specs.Parts.{told_header};
+ghost use Rattle.state.specs.View.{view};
+ghost use Rattle.state.specs.Opening.{OpenLeaves, first_rules, open_rules, opened_at, opened_fixed, opened_stream, zero_state};
+ghost use Rattle.refusal.specs.Refusals.{number_of, told, told_refusal};
 
 use crate::{FrameFacts, OpenedDecoder, PENDING, ProcessingMode, QoaDecoder};
 use format::checks::Kind;
-use format::frame::{FrameHeader, HeaderAnswer, QOA_HEADER_SIZE, QOA_MAX_CHANNELS};
-use lms::{QOA_LMS_LEN, QoaLms};
-use refusal::{Checked, CountAnswer, Refusal};
+use format::frame::{FrameHeader, QOA_HEADER_SIZE, QOA_MAX_CHANNELS};
+use refusal::{Done, Refusal};
 
-// What is told of a frame by its header.
-pub fn frame_facts(h: FrameHeader) -> FrameFacts
-    ensures { result ≡ facts_in h }
-{
-    FrameFacts {
-        channels: h.channels,
-        rate: h.rate,
-        samples: h.samples,
-    }
-}
-
-// The state of a refusal.
+// The state of a refusal. kept: a function and no `Default`, since the contract cites the definition of this state by its name.
 pub fn zero_state() -> QoaDecoder
     ensures { result ≡ zero_state }
 {
-    let lms = QoaLms {
-        history: [0; QOA_LMS_LEN],
-        weights: [0; QOA_LMS_LEN],
-    };
     QoaDecoder {
         mode: ProcessingMode::Streaming,
         at: 0,
@@ -47,7 +31,7 @@ pub fn zero_state() -> QoaDecoder
         next: 0,
         end: 0,
         given: false,
-        lms: [lms; QOA_MAX_CHANNELS],
+        lms: [lms::ZERO_LMS; QOA_MAX_CHANNELS],
         pending: [0; PENDING],
     }
 }
@@ -56,25 +40,24 @@ pub fn zero_state() -> QoaDecoder
 fn stream_state() -> QoaDecoder
     ensures { view result ≡ opened_stream }
 {
-    let mut state = zero_state();
-    state.at = QOA_HEADER_SIZE;
-    state
+    QoaDecoder {
+        at: QOA_HEADER_SIZE,
+        ..zero_state()
+    }
 }
 
 // The header of the first frame, whose predictor state is whole.
-fn first_frame(bytes: &[u8]) -> HeaderAnswer
-    ensures { told_header result ≡ after (first_rules bytes.now) (good (header_at bytes.now 8)) }
+fn first_frame(bytes: &[u8]) -> Result<FrameHeader, Refusal>
+    ensures { told result ≡ after (first_rules bytes.now) (good (header_at bytes.now 8)) }
 {
-    let left = format::bytes_left(bytes, QOA_HEADER_SIZE);
+    let left = bytes.len().saturating_sub(QOA_HEADER_SIZE);
     if left < QOA_HEADER_SIZE {
-        return HeaderAnswer::Refused(Refusal::NoSamples);
+        return Err(Refusal::NoSamples);
     }
     let h = format::read_header(bytes, QOA_HEADER_SIZE);
     let need = format::state_end(h.channels as usize);
-    match format::check_frame(h, Kind::Any, need, left) {
-        Checked::Refused(r) => HeaderAnswer::Refused(r),
-        Checked::Passed => HeaderAnswer::Good(h),
-    }
+    format::check_frame(h, Kind::Any, need, left)?;
+    Ok(h)
 }
 
 // A fixed file at its first frame's slices.
@@ -83,10 +66,7 @@ fn fixed_state(bytes: &[u8], total: u32, h: FrameHeader) -> QoaDecoder
     ensures { view result ≡ opened_fixed bytes.now }
 {
     let zero = zero_state();
-    let states = zero.lms;
-    let pending = zero.pending;
     let channels = h.channels as usize;
-    let lms = predictors::read_states(bytes, 2 * QOA_HEADER_SIZE, channels, states);
     QoaDecoder {
         mode: ProcessingMode::FixedSamples {
             samples: total,
@@ -94,45 +74,34 @@ fn fixed_state(bytes: &[u8], total: u32, h: FrameHeader) -> QoaDecoder
             rate: h.rate,
         },
         at: QOA_HEADER_SIZE + format::state_end(channels),
-        frame: frame_facts(h),
+        frame: FrameFacts::from(h),
         remaining: h.samples,
-        next: 0,
-        end: 0,
-        given: false,
-        lms,
-        pending,
+        lms: predictors::read_states(bytes, 2 * QOA_HEADER_SIZE, channels, zero.lms),
+        ..zero
     }
 }
 
-fn refused_open(refusal: Refusal) -> OpenedDecoder
-    ensures { (result.answer ≡ Refused refusal) × (result.state ≡ zero_state) }
+// The state at the start of a file, or the refusal.
+fn opened(bytes: &[u8]) -> Result<QoaDecoder, Refusal>
+    ensures { MatchResult result (λ d. (first_of (open_rules bytes.now) ≡ none) × (view d ≡ opened_at bytes.now)) (λ r. first_of (open_rules bytes.now) ≡ some (number_of r)) }
 {
-    OpenedDecoder {
-        answer: Checked::Refused(refusal),
-        state: zero_state(),
+    let total = format::file_header(bytes)?;
+    if total == 0 {
+        return Ok(stream_state());
     }
+    let h = first_frame(bytes)?;
+    Ok(fixed_state(bytes, total as u32, h))
 }
 
 // A decoder at the start of a file.
 pub fn open_decoder(bytes: &[u8]) -> OpenedDecoder
-    ensures { (told_checked result.answer ≡ first_of (open_rules bytes.now)) × OpenLeaves (first_of (open_rules bytes.now)) bytes.now result.state }
+    ensures { (told_refusal result.answer ≡ first_of (open_rules bytes.now)) × OpenLeaves (first_of (open_rules bytes.now)) bytes.now result.state }
 {
-    match format::file_header(bytes) {
-        CountAnswer::Refused(r) => refused_open(r),
-        CountAnswer::Count(total) => {
-            if total == 0 {
-                return OpenedDecoder {
-                    answer: Checked::Passed,
-                    state: stream_state(),
-                };
-            }
-            match first_frame(bytes) {
-                HeaderAnswer::Refused(r) => refused_open(r),
-                HeaderAnswer::Good(h) => OpenedDecoder {
-                    answer: Checked::Passed,
-                    state: fixed_state(bytes, total as u32, h),
-                },
-            }
-        }
+    match opened(bytes) {
+        Err(why) => Done::refused(why, zero_state()),
+        Ok(state) => Done {
+            answer: Ok(()),
+            state,
+        },
     }
 }

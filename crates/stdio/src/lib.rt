@@ -24,84 +24,86 @@ pub fn standard(rt: HostRuntime) -> Streams {
     }
 }
 
-// How many bytes came, and whether a read failed.
+// A read failed, after so many bytes came.
 #[derive(Clone, Copy)]
-pub struct Got {
+pub struct ReadFailed {
     pub count: usize,
-    pub failed: bool,
 }
 
-// Says words on standard error. Answers whether all of them were taken.
-pub fn say(streams: Streams, words: &[u8]) -> bool
+// Not all of the bytes were taken.
+#[derive(Clone, Copy)]
+pub struct WriteFailed;
+
+// A read or a write failed, which was said.
+#[derive(Clone, Copy)]
+pub struct Failed;
+
+impl From<ReadFailed> for Failed {
+    fn from(_why: ReadFailed) -> Failed {
+        Failed
+    }
+}
+
+impl From<WriteFailed> for Failed {
+    fn from(_why: WriteFailed) -> Failed {
+        Failed
+    }
+}
+
+// Writes all of a buffer. No bytes at all are not written, so that can't fail.
+fn write_to<W: Write + Drop>(mut to: W, bytes: &[u8]) -> Result<(), WriteFailed>
+    ensures { Taken bytes.now result }
+{
+    if bytes.is_empty() {
+        return Ok(());
+    }
+    to.write_all(bytes).map_err(|_| WriteFailed)
+}
+
+// Says words on standard error.
+pub fn say(streams: Streams, words: &[u8]) -> Result<(), WriteFailed>
     ensures { Taken words.now result }
 {
-    if words.len() == 0 {
-        return true;
-    }
-    let mut to = streams.words;
-    match to.write_all(words) {
-        Ok(()) => true,
-        Err(_) => false,
-    }
+    write_to(streams.words, words)
 }
 
 // One read from standard input into the buffer: a chunk, or nothing at the end.
-pub fn read_chunk(streams: Streams, buffer: &mut [u8]) -> Got
+pub fn read_chunk(streams: Streams, buffer: &mut [u8]) -> Result<usize, ReadFailed>
     ensures { ReadOnce (length buffer.old) result }
 {
     let mut from = streams.input;
-    match from.read(buffer) {
-        Ok(count) => Got {
-            count,
-            failed: false,
-        },
-        Err(_) => {
-            say(streams, b"read failed\n");
-            Got {
-                count: 0,
-                failed: true,
-            }
-        }
-    }
+    let Ok(count) = from.read(buffer) else {
+        let _ = say(streams, b"read failed\n");
+        return Err(ReadFailed { count: 0 });
+    };
+    Ok(count)
 }
 
-// Reads until the buffer is full, the input ends or a read fails. A buffer that was not filled, with no read failed, tells the end.
-pub fn fill(streams: Streams, buffer: &mut [u8]) -> Got
+// Reads until the buffer is full, the input ends or a read fails. Fewer bytes than the buffer holds tell the end.
+pub fn fill(streams: Streams, buffer: &mut [u8]) -> Result<usize, ReadFailed>
     ensures { Filled (length buffer.old) result }
 {
+    // kept: n is told where a read fails
     let mut n = 0usize;
     while n < buffer.len() {
-        let got = read_chunk(streams, &mut buffer[n..]);
-        if got.failed {
-            return Got {
-                count: n,
-                failed: true,
-            };
-        }
-        if got.count == 0 {
+        let Ok(count) = read_chunk(streams, &mut buffer[n..]) else {
+            return Err(ReadFailed { count: n });
+        };
+        if count == 0 {
             break;
         }
-        n += got.count;
+        n += count;
     }
-    Got {
-        count: n,
-        failed: false,
-    }
+    Ok(n)
 }
 
-// Writes all of a buffer to standard output. Answers whether all of it was taken.
-pub fn write_out(streams: Streams, bytes: &[u8]) -> bool
+// Writes all of a buffer to standard output.
+pub fn write_out(streams: Streams, bytes: &[u8]) -> Result<(), WriteFailed>
     ensures { Taken bytes.now result }
 {
-    if bytes.len() == 0 {
-        return true;
+    let written = write_to(streams.output, bytes);
+    if written.is_err() {
+        let _ = say(streams, b"write failed\n");
     }
-    let mut to = streams.output;
-    match to.write_all(bytes) {
-        Ok(()) => true,
-        Err(_) => {
-            say(streams, b"write failed\n");
-            false
-        }
-    }
+    written
 }

@@ -1,5 +1,5 @@
 -- One turn of a loop over frames, and its end, as facts about the walk of the definitions. Assumes nothing.
-use Prim.Native.Nat.{ℕ, ◌+◌, ◌-◌, ◌≤◌, ◌<◌, min}
+use Prim.Native.Nat.{ℕ, ◌+◌, ◌≤◌, ◌<◌, min}
 use mathlib.Core.Path.{◌≡◌, refl, sym, ap, ◌∙◌}
 use mathlib.Core.List.{List, [], ◌∷◌, ◌++◌, flat_map}
 use mathlib.Core.Logic.{dite}
@@ -9,20 +9,17 @@ use native.Mathlib.Nat.{add-zero, min-eq_left, min-eq_right}
 use native.Mathlib.Omega.{arith}
 use borrow.Author.Tests.{le-ltb, lt-ltb}
 use lib.Dec.{ltb}
-use lib.ListN.{length, drop, length-append, length-drop}
-use lib.Seq.{drop-drop}
+use lib.ListN.{length, length-append}
 use Rattle.refusal.specs.Rules.{Answer, first_of, good, refused, ◌gives◌, ◌then◌}
 use Rattle.refusal.proofs.Rules.{fires, none_fires}
 use Rattle.word.proofs.Tests.{tests}
 use Rattle.format.specs.Header.{header_at}
 use Rattle.format.specs.Part.{length_of}
-use Rattle.format.specs.declared.frame.FrameHeader.{FrameHeader}
 use Rattle.file.specs.Frame.{count_of, frame_samples}
 use Rattle.file.specs.Walk.{WalkRules, Walk, past_frame, frame_at, samples_of, walk_of, with_frame}
 use Rattle.file.proofs.Walks.{walk_step}
 use Rattle.file.proofs.Needs.{frame_need}
 use Rattle.file.proofs.Frames.{header_at_lem}
-use Rattle.file.proofs.Places.{header_here}
 use Rattle.survey.specs.Parts.{fit_after, fits}
 
 -- ---- the walk
@@ -81,32 +78,16 @@ module _ (R : WalkRules) (room before : ℕ) (b : List ℕ) (whole : length_of (
       ap (λ (a : Answer Walk). a then λ w. fits room (before + length (samples_of w.frames))) (walk_on R b long passed)
       ∙ counted (walk_of R (past_frame b))
 
--- what follows the frame at a place
-pub after_here : (s : List ℕ) (at : ℕ) (h : FrameHeader) → header_at s at ≡ h → past_frame (drop at s) ≡ drop (at + length_of h) s
-after_here s at h e =
-    ap (λ (z : FrameHeader). drop (length_of z) (drop at s)) (header_here s at ∙ e) ∙ drop-drop (length_of h) at s
-
-module _ (R : WalkRules) (room before : ℕ) (s : List ℕ) (at : ℕ) where
-  pub turn : (h : FrameHeader) → header_at s at ≡ h → 8 ≤ length s - at → length_of h ≤ length s - at → first_of (R.frame (drop at s)) ≡ none
-      → fit_after R room before (drop at s) ≡ fit_after R room (min (before + count_of h) (room + 1)) (drop (at + length_of h) s)
-  turn h e long whole passed =
-      let here : header_at (drop at s) 0 ≡ h = header_here s at ∙ e in
-      let size = length-drop at s in
-      one_frame R room before (drop at s) (rw (here, size) whole) (omega arith) passed
-      ∙ rw (after_here s at h e, ap count_of here)
-
-  pub refused_turn : (n : ℕ) → 8 ≤ length s - at → first_of (R.frame (drop at s)) ≡ some n → fit_after R room before (drop at s) ≡ refused n
+-- a walk that ends, with so many samples before
+module _ (R : WalkRules) (room before : ℕ) (b : List ℕ) where
+  pub refused_turn : (n : ℕ) → 8 ≤ length b → first_of (R.frame b) ≡ some n → fit_after R room before b ≡ refused n
   unfolding fit_after
-  refused_turn n long e = rw (walk_refused R (drop at s) (omega (arith, length-drop at s)) n e)
+  refused_turn n long e = rw (walk_refused R b long n e)
 
-  pub ended : length s - at < 8 → first_of (R.tail (length s - at)) ≡ none → fit_after R room before (drop at s) ≡ fits room before
+  pub ended : length b < 8 → first_of (R.tail (length b)) ≡ none → fit_after R room before b ≡ fits room before
   unfolding fit_after flat_map
-  ended short e =
-      let size = length-drop at s in
-      rw (walk_ended R (drop at s) (omega arith) (rw size e), add-zero)
+  ended short e = rw (walk_ended R b short e, add-zero)
 
-  pub refused_end : (n : ℕ) → length s - at < 8 → first_of (R.tail (length s - at)) ≡ some n → fit_after R room before (drop at s) ≡ refused n
+  pub refused_end : (n : ℕ) → length b < 8 → first_of (R.tail (length b)) ≡ some n → fit_after R room before b ≡ refused n
   unfolding fit_after
-  refused_end n short e =
-      let size = length-drop at s in
-      rw (walk_tail R (drop at s) (omega arith) n (rw size e))
+  refused_end n short e = rw (walk_tail R b short n e)

@@ -1,40 +1,40 @@
 #![tactic(auto)]
 
 // The survey: every refusal of frames, and how many samples they have, by headers alone. It touches no lent memory.
-ghost use Rattle.std.specs.Prelude.{◌≡◌, ◌+◌, ◌*◌, ◌^◌, ◌≤◌, ◌<◌, min, length, drop};
+ghost use Rattle.std.specs.Prelude.{◌≡◌, ◌*◌, ◌^◌, ◌<◌};
 ghost use Rattle.refusal.specs.Rules.{first_of};
-ghost use Rattle.refusal.specs.Refusals.{told_checked, told_count};
+ghost use Rattle.refusal.specs.Refusals.{told, told_refusal};
 ghost use Rattle.file.specs.Whole.{tail_rules};
 ghost use Rattle.file.specs.Streaming.{no_tail};
 ghost use Rattle.survey.specs.Parts.{fit_after, fits, reader_for};
 
 use format::checks::Kind;
 use format::frame::{FrameHeader, QOA_HEADER_SIZE};
-use refusal::{Checked, CountAnswer, Refusal};
+use refusal::Refusal;
 
 // The bytes that are left after the last frame of a file.
-pub fn check_tail(left: usize) -> Checked
-    ensures { told_checked result ≡ first_of (tail_rules left) }
+pub fn check_tail(left: usize) -> Result<(), Refusal>
+    ensures { told_refusal result ≡ first_of (tail_rules left) }
 {
     if !format::tail_ok(left, true) {
-        return Checked::Refused(Refusal::Truncated);
+        return Err(Refusal::Truncated);
     }
-    Checked::Passed
+    Ok(())
 }
 
-// No bytes may be left after streaming frames.
-fn check_none(left: usize) -> Checked
-    ensures { told_checked result ≡ first_of (no_tail left) }
+// No bytes may be left after streaming frames. kept: another rule of another reader than the tail's.
+fn check_none(left: usize) -> Result<(), Refusal>
+    ensures { told_refusal result ≡ first_of (no_tail left) }
 {
     if left != 0 {
-        return Checked::Refused(Refusal::Truncated);
+        return Err(Refusal::Truncated);
     }
-    Checked::Passed
+    Ok(())
 }
 
 // The bytes that are left after the last frame of a kind.
-fn check_end(left: usize, kind: Kind) -> Checked
-    ensures { told_checked result ≡ first_of ((reader_for kind).tail left) }
+fn check_end(left: usize, kind: Kind) -> Result<(), Refusal>
+    ensures { told_refusal result ≡ first_of ((reader_for kind).tail left) }
 {
     match kind {
         Kind::Any => check_none(left),
@@ -49,46 +49,31 @@ pub fn sample_count(h: FrameHeader) -> usize
     (h.samples as usize) * (h.channels as usize)
 }
 
-// A sum that stops one past the room.
-fn add_capped(a: usize, b: usize, room: usize) -> usize
-    requires { (a ≤ room + 1) × (b < 2 ^ 24) × (room < 2 ^ 63) }
-    ensures { result ≡ min (a + b) (room + 1) }
-{
-    if room + 1 < a + b {
-        return room + 1;
-    }
-    a + b
-}
-
 // So many samples, where there is room for them.
-fn fit_count(need: usize, room: usize) -> CountAnswer
-    ensures { told_count result ≡ fits room need }
+fn fit_count(need: usize, room: usize) -> Result<usize, Refusal>
+    ensures { told result ≡ fits room need }
 {
     if room < need {
-        return CountAnswer::Refused(Refusal::OutputTooSmall);
+        return Err(Refusal::OutputTooSmall);
     }
-    CountAnswer::Count(need)
+    Ok(need)
 }
 
-// All frames of a kind from a place on.
-pub fn walk_frames(bytes: &[u8], start: usize, kind: Kind, room: usize) -> CountAnswer
-    requires { (start ≤ length bytes.now) × (room < 2 ^ 63) }
-    ensures { told_count result ≡ fit_after (reader_for kind) room 0 (drop start bytes.now) }
+// All frames of a kind, one after another.
+pub fn walk_frames(bytes: &[u8], kind: Kind, room: usize) -> Result<usize, Refusal>
+    requires { room < 2 ^ 63 }
+    ensures { told result ≡ fit_after (reader_for kind) room 0 bytes.now }
 {
-    let mut at = start;
+    let mut rest = bytes;
     let mut need: usize = 0;
-    while QOA_HEADER_SIZE <= bytes.len() - at {
-        let h = format::read_header(bytes, at);
-        let length = format::frame_length(h.channels as usize, h.samples as usize);
-        let checked = format::check_frame(h, kind, length, bytes.len() - at);
-        if let Checked::Refused(r) = checked {
-            return CountAnswer::Refused(r);
-        }
-        need = add_capped(need, sample_count(h), room);
-        at = at + length;
+    while QOA_HEADER_SIZE <= rest.len() {
+        let h = format::read_header(rest, 0);
+        let length = h.length();
+        format::check_frame(h, kind, length, rest.len())?;
+        // once it is past the room it stays one past it
+        need = (need + sample_count(h)).min(room + 1);
+        rest = &rest[length..];
     }
-    match check_end(bytes.len() - at, kind) {
-        Checked::Passed => fit_count(need, room),
-        Checked::Refused(r) => CountAnswer::Refused(r),
-    }
+    check_end(rest.len(), kind)?;
+    fit_count(need, room)
 }

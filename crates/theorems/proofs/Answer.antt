@@ -22,8 +22,9 @@ use Rattle.encoder.specs.Encoder.{EncoderView, new_view, encoder_view}
 use Rattle.encoder.specs.Head.{head_bytes}
 use Rattle.oneshot.specs.Shots.{AllDone, ShotDone}
 use Rattle.encoder.specs.Calls.{FrameDone, head_memory, head_told, told_encode, wrote}
-use Rattle.encoder.specs.declared.EncodeAnswer.{EncodeAnswer}
-use Rattle.encoder.specs.declared.EncodedBytes.{EncodedBytes}
+use Rattle.std.specs.Prelude.{Result}
+use Rattle.refusal.specs.declared.Done.{Done}
+use Rattle.encoder.specs.declared.EncodeRefusal.{EncodeRefusal}
 use Rattle.encoder.specs.declared.QoaEncoder.{QoaEncoder}
 use Rattle.theorems.specs.Claims.{Accepts, HasCut, HasCutWithoutTail, RoomFor}
 use Rattle.theorems.specs.Finished.{Finished, one_shot, from_start, in_pieces, bytes_in, given_in, reconstruction_in, start_in}
@@ -87,17 +88,17 @@ finished_many (in_pieces total v first others all) = as_many v (first ∷ others
 
 -- An accepted one-shot call, on an encoder or from the start: up to the count that it tells, the output holds a finished file of what was given
 -- (`FileLeft`, specs/Left).
-pub one_shot_leaves : (e : QoaEncoder) (samples : List ℤ) (out : List ℕ) (r : EncodedBytes) (left : List ℕ) (count : ℕ)
+pub one_shot_leaves : (e : QoaEncoder) (samples : List ℤ) (out : List ℕ) (r : Done (Result ℕ EncodeRefusal) QoaEncoder) (left : List ℕ) (count : ℕ)
     → ShotDone e samples out r left → told_encode r.answer ≡ wrote count → FileLeft (encoder_view e) samples count left
 one_shot_leaves = shot_left
 
-pub from_start_leaves : (c rate total : ℕ) (samples : List ℤ) (out : List ℕ) (r : EncodeAnswer) (left : List ℕ) (count : ℕ)
+pub from_start_leaves : (c rate total : ℕ) (samples : List ℤ) (out : List ℕ) (r : Result ℕ EncodeRefusal) (left : List ℕ) (count : ℕ)
     → AllDone c rate total samples out r left → told_encode r ≡ wrote count → FileLeft (new_view c rate total) samples count left
 from_start_leaves = start_left
 
 -- An accepted call for a frame: the output holds the frame's bytes, and the state that it hands back is the one that the next frame of a file starts from
 -- (`FrameLeft`, specs/Left).
-pub frame_leaves : (e : QoaEncoder) (samples : List ℤ) (out : List ℕ) (r : EncodedBytes) (left : List ℕ) (count : ℕ)
+pub frame_leaves : (e : QoaEncoder) (samples : List ℤ) (out : List ℕ) (r : Done (Result ℕ EncodeRefusal) QoaEncoder) (left : List ℕ) (count : ℕ)
     → FrameDone e samples out r left → told_encode r.answer ≡ wrote count → FrameLeft e samples count r.state left
 frame_leaves = frame_left
 

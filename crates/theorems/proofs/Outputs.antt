@@ -13,8 +13,9 @@ use Rattle.encoder.specs.Head.{head_bytes}
 use Rattle.oneshot.specs.Shots.{AllDone, ShotDone, all_rules, shot_memory, shot_told}
 use Rattle.refusal.specs.Lent.{laid_over}
 use Rattle.encoder.specs.Calls.{FrameDone, frame_memory, frame_told, head_memory, head_told, told_encode, wrote}
-use Rattle.encoder.specs.declared.EncodeAnswer.{EncodeAnswer}
-use Rattle.encoder.specs.declared.EncodedBytes.{EncodedBytes}
+use Rattle.std.specs.Prelude.{Result}
+use Rattle.refusal.specs.declared.Done.{Done}
+use Rattle.encoder.specs.declared.EncodeRefusal.{EncodeRefusal}
 use Rattle.encoder.specs.declared.QoaEncoder.{QoaEncoder}
 use Rattle.refusal.proofs.Lents.{over_front}
 use Rattle.oneshot.proofs.Files.{file_long}
@@ -34,7 +35,7 @@ head_left v out count told =
 
 -- ---- after an accepted call for a frame
 
-pub frame_left : (e : QoaEncoder) (samples : List ℤ) (out : List ℕ) (r : EncodedBytes) (left : List ℕ) (count : ℕ)
+pub frame_left : (e : QoaEncoder) (samples : List ℤ) (out : List ℕ) (r : Done (Result ℕ EncodeRefusal) QoaEncoder) (left : List ℕ) (count : ℕ)
     → FrameDone e samples out r left → told_encode r.answer ≡ wrote count → FrameLeft e samples count r.state left
 unfolding frame_memory
 frame_left e samples out r left count done tells =
@@ -60,7 +61,7 @@ shot_memory_lem rules v samples out left count s told e =
     let memory : left ≡ laid_over out 0 (good bytes) = rw (passed.quiet_rules, passed.no_stop) at e in
     rw memory (over_front out bytes count (file_long v samples s.good.some_channels s.whole ∙ passed.counted))
 
-pub shot_left : (e : QoaEncoder) (samples : List ℤ) (out : List ℕ) (r : EncodedBytes) (left : List ℕ) (count : ℕ)
+pub shot_left : (e : QoaEncoder) (samples : List ℤ) (out : List ℕ) (r : Done (Result ℕ EncodeRefusal) QoaEncoder) (left : List ℕ) (count : ℕ)
     → ShotDone e samples out r left → told_encode r.answer ≡ wrote count → FileLeft (encoder_view e) samples count left
 unfolding bytes_in start_in given_in
 shot_left e samples out r left count done tells =
@@ -74,7 +75,7 @@ shot_left e samples out r left count done tells =
       bytes = shot_memory_lem (shot_rules v samples room) v samples out left count (shot v samples room count told) told done.memory;
     }
 
-pub start_left : (c rate total : ℕ) (samples : List ℤ) (out : List ℕ) (r : EncodeAnswer) (left : List ℕ) (count : ℕ)
+pub start_left : (c rate total : ℕ) (samples : List ℤ) (out : List ℕ) (r : Result ℕ EncodeRefusal) (left : List ℕ) (count : ℕ)
     → AllDone c rate total samples out r left → told_encode r ≡ wrote count → FileLeft (new_view c rate total) samples count left
 unfolding bytes_in start_in given_in
 start_left c rate total samples out r left count done tells =

@@ -1,14 +1,13 @@
 #![tactic(auto)]
 
 // One sample, as a decoder hears it and as an encoder tries it at a scale factor.
-ghost use Rattle.std.specs.Prelude.{◌≡◌, ◌≤◌, ◌<◌, ◌^◌, nat_abs, ◌-ℤ◌};
+ghost use Rattle.std.specs.Prelude.{◌≡◌, ◌≤◌, ◌^◌, nat_abs, ◌-ℤ◌};
 ghost use Rattle.lms.specs.Predictor.{predicted};
-ghost use Rattle.scale.specs.Parts.{quick_codes, quick_row, reciprocal_tab};
-ghost use Rattle.scale.specs.Tables.{row_of};
-ghost use Rattle.trial.specs.Trial.{code_tried, heard, tried, value_tried};
+ghost use Rattle.trial.specs.Trial.{heard, tried};
 ghost use Rattle.lms.specs.Parts.{WeightsWithin};
 
 use lms::QoaLms;
+use scale::{Coder, Coding};
 
 // A sample that is heard, with the predictor after it.
 #[derive(Clone, Copy)]
@@ -43,56 +42,21 @@ fn residual(lms: QoaLms, sample: i16) -> i32
     (sample as i32) - lms::predict(lms)
 }
 
-// What a sample's code and its table value come to.
-fn outcome(lms: QoaLms, sample: i16, sf: usize, code: u8, value: i32) -> Tried
-    requires weights_within { (WeightsWithin (2 ^ 30) lms) × (sf < 16) }
-    requires code_value { (code ≡ code_tried lms sample sf) × (value ≡ value_tried lms sample sf) }
-    ensures { result ≡ tried lms sample sf }
+// A sample, tried at a scale factor by a coder, the plain row or the quick one.
+pub fn attempt<C: Coder>(lms: QoaLms, sample: i16, coding: &Coding, coder: &C) -> Tried
+    requires { WeightsWithin (2 ^ 30) lms }
+    ensures { result ≡ tried lms sample (C.factor coder.now) }
 {
-    let heard = hear(lms, value);
+    let v = residual(lms, sample);
+    let coded = coder.coded(coding, v);
+    let heard = hear(lms, coded.value);
     let sum = heard.sample;
     let next = heard.lms;
     let cost = lms::cost(sample, sum, lms::penalty(lms));
     Tried {
-        code,
+        code: coded.code,
         sum,
         cost,
         lms: next,
     }
-}
-
-// A sample, tried at a scale factor, whose row of the table is handed in.
-pub fn attempt(
-    lms: QoaLms,
-    sample: i16,
-    sf: usize,
-    reciprocals: &[i32; 16],
-    codes: &[u8; 34],
-    row: [i32; 8],
-) -> Tried
-    requires weights_within { (WeightsWithin (2 ^ 30) lms) × (sf < 16) × (row ≡ row_of sf) }
-    requires reciprocals_value { (reciprocals.now ≡ reciprocal_tab) × (codes.now ≡ quick_codes) }
-    ensures { result ≡ tried lms sample sf }
-{
-    let code = scale::quick_code(residual(lms, sample), sf, reciprocals, codes);
-    outcome(lms, sample, sf, code, row[code as usize])
-}
-
-// The same, with the quick row, where one load gives the table value: a run tries its samples one after another and waits for it.
-pub fn attempt_quick(
-    lms: QoaLms,
-    sample: i16,
-    sf: usize,
-    reciprocals: &[i32; 16],
-    codes: &[u8; 34],
-    row: &[i16],
-) -> Tried
-    requires weights_within { (WeightsWithin (2 ^ 30) lms) × (sf < 16) × (row.now ≡ quick_row sf) }
-    requires reciprocals_value { (reciprocals.now ≡ reciprocal_tab) × (codes.now ≡ quick_codes) }
-    ensures { result ≡ tried lms sample sf }
-{
-    let v = residual(lms, sample);
-    let code = scale::quick_code(v, sf, reciprocals, codes);
-    let value = scale::quick_value(v, sf, reciprocals, row);
-    outcome(lms, sample, sf, code, value)
 }

@@ -3,10 +3,10 @@ use Prim.Native.Nat.{ℕ, ◌+◌, ◌-◌, ◌≤◌, ◌<◌}
 use mathlib.Core.Path.{◌≡◌, refl, sym, ap, ◌∙◌}
 use mathlib.Core.List.{List, [], ◌++◌, flat_map}
 use mathlib.Core.Option.{Option, none, some}
-use native.Mathlib.Nat.{sub-zero, sub-add-eq}
+use native.Mathlib.Nat.{sub-add-eq}
 use native.Mathlib.Omega.{arith}
 use lib.IntN.{ℤ}
-use lib.ListN.{length, drop, length-append, length-drop}
+use lib.ListN.{length, drop, length-append}
 use Rattle.refusal.specs.Rules.{Answer, first_of, good, refused, ◌then◌}
 use Rattle.refusal.proofs.Rules.{Quiet, none_fires}
 use Rattle.word.proofs.Tests.{tests}
@@ -22,12 +22,11 @@ use Rattle.file.specs.Walk.{Walk, past_frame, frame_at, rules_at, samples_of, wa
 use Rattle.file.specs.Parts.{IsFree}
 use Rattle.file.proofs.Frames.{Fit, free_fit, header_at_lem}
 use Rattle.file.proofs.Needs.{frame_need}
-use Rattle.file.proofs.Places.{header_here}
 use Rattle.file.proofs.Walks.{walks}
 use Rattle.refusal.specs.Lent.{laid_over}
 use Rattle.refusal.proofs.Lents.{length_over, over_nil, over_then}
 use Rattle.whole.specs.Parts.{HasRoom, held, held_frames, short_tail}
-use Rattle.survey.proofs.Walking.{after_here, walk_ended, walk_on, walk_refused}
+use Rattle.survey.proofs.Walking.{walk_ended, walk_on, walk_refused}
 
 -- ---- whole good frames are held
 
@@ -47,13 +46,13 @@ joined_held fs tail free short = rw (walks held_frames IsFree held_fit fs tail f
 abbrev pub with_samples : List ℤ → Answer (List ℤ) → Answer (List ℤ)
 with_samples f rest = rest then λ xs. good (f ++ xs)
 
-pub record HeldOn (b : List ℕ) (room : ℕ) : Type 0 where
-  pub few_channels : (header_at b 0).channels ≤ max_channels
-  pub whole : length_of (header_at b 0) ≤ length b
-  pub counted : length (frame_samples (frame_at b)) ≡ count_of (header_at b 0)
-  pub fits : count_of (header_at b 0) ≤ room
-  pub rest : HasRoom (held (past_frame b)) (room - count_of (header_at b 0))
-  pub same : held b ≡ with_samples (frame_samples (frame_at b)) (held (past_frame b))
+pub record HeldOn (b : List ℕ) (h : FrameHeader) (room : ℕ) : Type 0 where
+  pub few_channels : h.channels ≤ max_channels
+  pub whole : length_of h ≤ length b
+  pub counted : length (frame_samples (frame_at b)) ≡ count_of h
+  pub fits : count_of h ≤ room
+  pub rest : HasRoom (held (drop (length_of h) b)) (room - count_of h)
+  pub same : held b ≡ with_samples (frame_samples (frame_at b)) (held (drop (length_of h) b))
 
 -- where there is room for a frame and what follows it
 room_parts : (f : List ℤ) (a : Answer (List ℤ)) (room : ℕ) → HasRoom (with_samples f a) room → (length f ≤ room) × HasRoom a (room - length f)
@@ -71,23 +70,23 @@ module _ (b : List ℕ) where
   by_rules room long h none e = e
   by_rules room long h (some n) e = absurd (rw (walk_refused held_frames b long n e) at h)
 
-  pub held_on : (room : ℕ) → 8 ≤ length b → HasRoom (held b) room → HeldOn b room
+  pub held_on : (head : FrameHeader) (room : ℕ) → head ≡ header_at b 0 → 8 ≤ length b → HasRoom (held b) room → HeldOn b head room
   unfolding held
-  held_on room long h =
+  held_on head room is_head long h =
       let quiet = by_rules room long h (first_of (rules_at Any b)) refl in
       let p = passed Any (header_at b 0) (length_of (header_at b 0)) (length b) quiet in
       let f = frame_samples (frame_at b) in
       let count : length f ≡ count_of (header_at b 0) = frame_need (frame_at b) ∙ ap count_of (header_at_lem b p.there) in
       let same : held b ≡ with_samples f (held (past_frame b)) = ap (λ (a : Answer Walk). a then λ w. good (samples_of w.frames)) (walk_on held_frames b long quiet) ∙ held_then (walk_of held_frames (past_frame b)) in
       let parts = room_parts f (held (past_frame b)) room (rw same at h) in
-      record {
+      rw is_head (record {
         few_channels = p.header.few_channels;
         whole = p.there;
         counted = count;
         fits = omega arith;
         rest = rw count at parts.1;
         same = same;
-      }
+      })
 
 -- ---- what it leaves
 
@@ -104,67 +103,32 @@ held_end b short = rw (walk_ended held_frames b short (none_fires (short_tail (l
 
 -- ---- a loop over the frames
 
--- the header h stands at a place, and a frame that was passed with it
-pub record HereOn (s : List ℕ) (at : ℕ) (h : FrameHeader) (room : ℕ) : Type 0 where
-  pub few_channels : h.channels ≤ max_channels
-  pub whole : at + length_of h ≤ length s
-  pub counted : length (frame_samples (frame_at (drop at s))) ≡ count_of h
-  pub fits : count_of h ≤ room
-  pub rest : HasRoom (held (drop (at + length_of h) s)) (room - count_of h)
-  pub same : held (drop at s) ≡ with_samples (frame_samples (frame_at (drop at s))) (held (drop (at + length_of h) s))
-
-pub here_on : (s : List ℕ) (at : ℕ) (h : FrameHeader) (room : ℕ) → header_at s at ≡ h → at + 8 ≤ length s → HasRoom (held (drop at s)) room → HereOn s at h room
-here_on s at h room e there has =
-    let size = length-drop at s in
-    let on = held_on (drop at s) room (omega arith) has in
-    let here : header_at (drop at s) 0 ≡ h = header_here s at ∙ e in
-    let next = after_here s at h e in
-    let whole : length_of h ≤ length (drop at s) = rw here at on.whole in
-    record {
-      few_channels = rw here at on.few_channels;
-      whole = omega arith;
-      counted = on.counted ∙ ap count_of here;
-      fits = rw here at on.fits;
-      rest = rw (next, here) at on.rest;
-      same = rw next at on.same;
-    }
-
--- what all frames leave in `lent` is what those from `at` on leave, from the index `done` on, in `out`
-pub record Decoded (s : List ℕ) (first : ℕ) (lent out : List ℤ) (at done : ℕ) : Type 0 where
-  pub within : at ≤ length s
+-- what all frames leave in `lent` is what those of the rest leave, from the index `done` on, in `out`
+pub record Decoded (s : List ℕ) (lent out : List ℤ) (b : List ℕ) (done : ℕ) : Type 0 where
   pub stored : done ≤ length out
   pub long : length out ≡ length lent
-  pub room : HasRoom (held (drop at s)) (length out - done)
-  pub same : laid_over lent 0 (held (drop first s)) ≡ laid_over out done (held (drop at s))
+  pub room : HasRoom (held b) (length out - done)
+  pub same : laid_over lent 0 (held s) ≡ laid_over out done (held b)
 
-pub decoded_start : (s : List ℕ) (first : ℕ) (lent : List ℤ) → first ≤ length s → HasRoom (held (drop first s)) (length lent) → Decoded s first lent lent first 0
-decoded_start s first lent within room = record { within = within; stored = omega arith; long = refl; room = rw sub-zero room; same = refl }
+pub decoded_end : (s : List ℕ) (lent out : List ℤ) (b : List ℕ) (done : ℕ) → Decoded s lent out b done → length b < 8 → out ≡ laid_over lent 0 (held s)
+decoded_end s lent out b done d short =
+    sym (d.same ∙ ap (λ (a : Answer (List ℤ)). laid_over out done a) (held_end b short) ∙ over_nil out done)
 
-pub decoded_end : (s : List ℕ) (first : ℕ) (lent out : List ℤ) (at done : ℕ) → Decoded s first lent out at done → length s - at < 8 → out ≡ laid_over lent 0 (held (drop first s))
-decoded_end s first lent out at done d short =
-    let ends = held_end (drop at s) (omega (arith, length-drop at s)) in
-    sym (d.same ∙ ap (λ (a : Answer (List ℤ)). laid_over out done a) ends ∙ over_nil out done)
-
-module _ (s : List ℕ) (first : ℕ) (lent out : List ℤ) (at done : ℕ) (h : FrameHeader) (d : Decoded s first lent out at done) (here : HereOn s at h (length out - done)) where
-  f : List ℤ
-  f = frame_samples (frame_at (drop at s))
-
-  there : done + length f ≤ length out
-  unfolding f
+module _ (s : List ℕ) (lent out : List ℤ) (b : List ℕ) (done : ℕ) (h : FrameHeader) (d : Decoded s lent out b done) (here : HeldOn b h (length out - done)) where
+  there : done + length (frame_samples (frame_at b)) ≤ length out
   there = omega (arith, here.counted, here.fits, d.stored)
 
-  next_long : length (laid_over out done (good f)) ≡ length out
-  next_long = length_over out done f there
+  next_long : length (laid_over out done (good (frame_samples (frame_at b)))) ≡ length out
+  next_long = length_over out done (frame_samples (frame_at b)) there
 
-  pub decoded_more : (after : List ℤ) (len count : ℕ) → len ≡ length_of h → count ≡ count_of h
-      → after ≡ laid_over out done (good (frame_samples (frame_at (drop at s))))
-      → Decoded s first lent after (at + len) (done + count)
-  unfolding f
-  decoded_more after len count isLen isCount isAfter =
-      rw (isLen, isCount, isAfter) (record {
-        within = here.whole;
+  pub decoded_more : Decoded s lent (laid_over out done (good (frame_samples (frame_at b)))) (drop (length_of h) b) (done + count_of h)
+  decoded_more =
+      record {
         stored = omega (arith, next_long, here.fits, d.stored);
         long = next_long ∙ d.long;
         room = rw (next_long, sub-add-eq) here.rest;
-        same = d.same ∙ ap (λ (a : Answer (List ℤ)). laid_over out done a) here.same ∙ keep_on out f done (count_of h) here.counted (omega (arith, here.fits, d.stored)) (held (drop (at + length_of h) s)) _ here.rest;
-      })
+        same =
+            d.same
+            ∙ ap (λ (a : Answer (List ℤ)). laid_over out done a) here.same
+            ∙ keep_on out (frame_samples (frame_at b)) done (count_of h) here.counted (omega (arith, here.fits, d.stored)) (held (drop (length_of h) b)) _ here.rest;
+      }

@@ -1,5 +1,5 @@
 -- The stages of whole-file decoding, as facts about its definition. Assumes nothing.
-use Prim.Native.Nat.{ℕ, ◌+◌, ◌-◌, ◌*◌, ◌≤◌, ◌<◌}
+use Prim.Native.Nat.{ℕ, ◌+◌, ◌*◌, ◌≤◌, ◌<◌}
 use mathlib.Core.Path.{◌≡◌, refl, sym, ap, ◌∙◌}
 use mathlib.Core.Bool.{Bool}
 use mathlib.Core.List.{List, [], ◌∷◌}
@@ -24,7 +24,6 @@ use Rattle.file.proofs.Accepted.{quiet_head}
 use Rattle.file.proofs.Frames.{header_at_lem, starts, whole_file_fit}
 use Rattle.file.proofs.Walks.{walk_step, walked}
 use Rattle.file.proofs.Needs.{frames_need, need_small}
-use Rattle.file.proofs.Places.{header_here}
 use Rattle.whole.specs.Told.{summary_in}
 use Rattle.survey.specs.Parts.{audio_after, fit_after, fits}
 use Rattle.refusal.specs.declared.Summary.{Summary}
@@ -99,19 +98,18 @@ module _ (fixed : Bool) (c r : ℕ) where
         rw (zero-add, fits_good ample (length (samples_of all)) small) (ap {B = Answer Summary} good (λ i. record { channels = channels i; rate = rate i; count = length (samples_of all) }))
 
 -- the frames of a file are counted from the first one on
-pub surveyed : (fixed : Bool) (b : List ℕ) (h : FrameHeader) → header_at b 8 ≡ h → length b ≤ most_bytes → 8 ≤ length b - 8
+pub surveyed : (fixed : Bool) (b : List ℕ) (h : FrameHeader) → header_at (drop 8 b) 0 ≡ h → length b ≤ most_bytes → 8 ≤ length (drop 8 b)
     → summary_in (audio_after fixed b) ≡ (fit_after (whole_file fixed h.channels h.rate) ample 0 (drop 8 b) then summary h.channels h.rate)
 unfolding audio_after body_for fit_after
 surveyed fixed b h e few long =
     let rest = drop 8 b in
     let R = whole_file fixed h.channels h.rate in
     let size = length-drop 8 b in
-    let there : 8 ≤ length rest = omega arith in
     let refusal = first_of (rules_at (like_first fixed h.channels h.rate) rest) in
     let others = walk_of R (past_frame rest) in
-    let same : body fixed rest ≡ body_for fixed h.channels h.rate rest = ap (λ (z : FrameHeader). body_for fixed z.channels z.rate rest) (header_here b 8 ∙ e) in
+    let same : body fixed rest ≡ body_for fixed h.channels h.rate rest = ap (λ (z : FrameHeader). body_for fixed z.channels z.rate rest) e in
     let found : body fixed rest ≡ unless refusal others = same ∙ rw (none_fires (some_rules rest) (omega (arith, tests))) in
-    let walk : walk_of R rest ≡ unless refusal (others then with_frame (frame_at rest)) = walk_step R rest ∙ rw (le-ltb (length rest) 8 there) in
+    let walk : walk_of R rest ≡ unless refusal (others then with_frame (frame_at rest)) = walk_step R rest ∙ rw (le-ltb (length rest) 8 long) in
     ap (λ (a : Answer Walk). summary_in (a then with_first (take 8 b) (frame_at rest) then λ k. good (audio_of k))) found
-    ∙ by_first fixed h.channels h.rate rest (omega arith) there (take 8 b) refusal others refl refl
+    ∙ by_first fixed h.channels h.rate rest (omega arith) long (take 8 b) refusal others refl refl
     ∙ ap (λ (a : Answer Walk). a then (λ w. fits ample (0 + length (samples_of w.frames))) then summary h.channels h.rate) (sym walk)

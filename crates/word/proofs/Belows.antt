@@ -1,10 +1,17 @@
 -- Laws of `below`, a test of each index below a number, and of `&&`. Assumes nothing.
 use Prim.Native.Nat.{ℕ, zero, suc, ◌<◌}
-use mathlib.Core.Path.{◌≡◌, refl, sym, ap₂, ◌∙◌}
+use mathlib.Core.Path.{◌≡◌, refl, sym, ap, ap₂, ◌∙◌}
 use mathlib.Core.Bool.{Bool, true, false, ◌&&◌}
 use mathlib.Core.Logic.{⊎_elim}
-use native.Mathlib.Nat.{eq-or-lt_of_le, le_of_suc-le-suc, not-suc-le-zero}
+use lib.Seq.{take-length}
+use native.Mathlib.Nat.{eq-or-lt_of_le, le_refl, le_of_suc-le-suc, not-suc-le-zero}
 use native.Mathlib.Omega.{arith}
+use lib.ListN.{get_or, length, take}
+use mathlib.Core.List.{List}
+use Prim.Native.Nat.{◌≤◌}
+use Rattle.std.specs.List.{list_all}
+use Rattle.std.proofs.Common.{add-one}
+use Rattle.std.proofs.lemmas.List.Folds.{list_all_more}
 use Rattle.word.specs.Below.{below}
 
 pub and_left : (a b : Bool) → (a && b) ≡ true → a ≡ true
@@ -51,3 +58,13 @@ pub below_ext : (p q : ℕ → Bool) (c : ℕ) → ((k : ℕ) → k < c → p k 
 unfolding below
 below_ext p q zero same = refl
 below_ext p q (suc c) same = ap₂ ◌&&◌ (below_ext p q c (λ k l. same k (omega arith))) (same c (omega arith))
+
+-- over the first of a list
+pub below_list : {A : Type 0} (p : A → Bool) (xs : List A) (d : A) (n : ℕ) → n ≤ length xs → below n (λ j. p (get_or xs j d)) ≡ list_all p (take n xs)
+unfolding below
+below_list p xs d zero h = refl
+below_list p xs d (suc n) h = ap (λ (b : Bool). b && p (get_or xs n d)) (below_list p xs d n (omega arith)) ∙ sym (rw add-one at (list_all_more p xs n d (omega arith)))
+
+-- over all of it
+pub list_all-below : {A : Type 0} (test : A → Bool) (xs : List A) (d : A) → list_all test xs ≡ below (length xs) (λ i. test (get_or xs i d))
+list_all-below test xs d = let whole = below_list test xs d (length xs) (le_refl (length xs)) in sym (whole ∙ ap (list_all test) (take-length xs))

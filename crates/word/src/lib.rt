@@ -3,12 +3,12 @@
 // Big-endian numbers in bytes, and the fields of a slice's 64-bit word; little-endian samples in `little`.
 pub mod little;
 
-ghost use Rattle.std.specs.Prelude.{◌≡◌, ◌+◌, ◌*◌, ◌^◌, ◌≤◌, ◌<◌, length};
-ghost use Rattle.word.specs.Bytes.{be, be16, be32, be64};
+ghost use Rattle.std.specs.Prelude.{ℕ, ◌≡◌, ◌+◌, ◌*◌, ◌^◌, ◌≤◌, ◌<◌, length};
+ghost use Rattle.word.specs.Bytes.{be};
 ghost use Rattle.word.specs.Word.{scale_of, code_of, filled};
 ghost use Rattle.word.specs.Parts.{put};
 
-// The number with one byte more, pushed in from below.
+// The number with one byte more, pushed in from below. kept: words by shifts and masks, as document 01 asks.
 fn push_byte(word: u64, byte: u8) -> u64
     requires { word < 2 ^ 56 }
     ensures { result ≡ word * 256 + byte }
@@ -17,75 +17,103 @@ fn push_byte(word: u64, byte: u8) -> u64
 }
 
 // The number of `n` bytes from a place on, for every width of at most 64 bits.
-fn read_be(bytes: &[u8], at: usize, n: usize) -> u64
+fn read_number(bytes: &[u8], at: usize, n: usize) -> u64
     requires { (n ≤ 8) × (at + n ≤ length bytes.now) }
     ensures { (result ≡ be n bytes.now at) × (result < 2 ^ (8 * n)) }
 {
     let mut word: u64 = 0;
-    for i in 0..n {
-        word = push_byte(word, bytes[at + i]);
+    for byte in &bytes[at..at + n] {
+        word = push_byte(word, *byte);
     }
     word
 }
 
-// The 16-bit number at a place.
-pub fn read_u16(bytes: &[u8], at: usize) -> u16
-    requires { at + 2 ≤ length bytes.now }
-    ensures { result ≡ be16 bytes.now at }
-{
-    read_be(bytes, at, 2) as u16
-}
-
-// The 32-bit number at a place.
-pub fn read_u32(bytes: &[u8], at: usize) -> u32
-    requires { at + 4 ≤ length bytes.now }
-    ensures { result ≡ be32 bytes.now at }
-{
-    read_be(bytes, at, 4) as u32
-}
-
-// The 64-bit number at a place. In two halves, which the compiler makes one load.
-pub fn read_u64(bytes: &[u8], at: usize) -> u64
-    requires { at + 8 ≤ length bytes.now }
-    ensures { result ≡ be64 bytes.now at }
-{
-    let high = read_be(bytes, at, 4);
-    let low = read_be(bytes, at + 4, 4);
-    (high << 32) | low
-}
-
 // Stores the lowest `n` bytes of a number from a place on, the topmost first.
-pub fn write_be(out: &mut [u8], at: usize, word: u64, n: usize)
+fn write_number(out: &mut [u8], at: usize, word: u64, n: usize)
     requires { (n ≤ 8) × (at + n ≤ length out.old) }
     ensures { out.new ≡ put n out.old at word }
 {
-    for i in 0..n {
-        out[at + i] = ((word >> (8 * (n - 1 - i))) & 255) as u8;
+    for (i, byte) in out[at..at + n].iter_mut().enumerate() {
+        *byte = ((word >> (8 * (n - 1 - i))) & 255) as u8;
     }
 }
 
-// Stores a 16-bit number at a place.
-pub fn write_u16(out: &mut [u8], at: usize, word: u16)
-    requires { at + 2 ≤ length out.old }
-    ensures { out.new ≡ put 2 out.old at word }
-{
-    write_be(out, at, word as u64, 2);
+// A number that stands in bytes, the topmost first.
+pub trait BigEndian: Copy {
+    // how many bytes it takes
+    ghost size: { ℕ };
+
+    // the number that it is
+    ghost value: { Self → ℕ };
+
+    // The number at a place.
+    fn read_be(bytes: &[u8], at: usize) -> Self
+        requires { at + size ≤ length bytes.now }
+        ensures { value result ≡ be size bytes.now at };
+
+    // Stores it at a place.
+    fn write_be(self, out: &mut [u8], at: usize)
+        requires { at + size ≤ length out.old }
+        ensures { out.new ≡ put size out.old at (value self) };
 }
 
-// Stores a 32-bit number at a place.
-pub fn write_u32(out: &mut [u8], at: usize, word: u32)
-    requires { at + 4 ≤ length out.old }
-    ensures { out.new ≡ put 4 out.old at word }
-{
-    write_be(out, at, word as u64, 4);
+impl BigEndian for u8 {
+    ghost size = { 1 };
+
+    ghost value = { λ x. x };
+
+    fn read_be(bytes: &[u8], at: usize) -> u8 {
+        read_number(bytes, at, 1) as u8
+    }
+
+    fn write_be(self, out: &mut [u8], at: usize) {
+        write_number(out, at, self as u64, 1);
+    }
 }
 
-// Stores a 64-bit number at a place.
-pub fn write_u64(out: &mut [u8], at: usize, word: u64)
-    requires { at + 8 ≤ length out.old }
-    ensures { out.new ≡ put 8 out.old at word }
-{
-    write_be(out, at, word, 8);
+impl BigEndian for u16 {
+    ghost size = { 2 };
+
+    ghost value = { λ x. x };
+
+    fn read_be(bytes: &[u8], at: usize) -> u16 {
+        read_number(bytes, at, 2) as u16
+    }
+
+    fn write_be(self, out: &mut [u8], at: usize) {
+        write_number(out, at, self as u64, 2);
+    }
+}
+
+impl BigEndian for u32 {
+    ghost size = { 4 };
+
+    ghost value = { λ x. x };
+
+    fn read_be(bytes: &[u8], at: usize) -> u32 {
+        read_number(bytes, at, 4) as u32
+    }
+
+    fn write_be(self, out: &mut [u8], at: usize) {
+        write_number(out, at, self as u64, 4);
+    }
+}
+
+// In two halves, which the compiler makes one load.
+impl BigEndian for u64 {
+    ghost size = { 8 };
+
+    ghost value = { λ x. x };
+
+    fn read_be(bytes: &[u8], at: usize) -> u64 {
+        let high = read_number(bytes, at, 4);
+        let low = read_number(bytes, at + 4, 4);
+        (high << 32) | low
+    }
+
+    fn write_be(self, out: &mut [u8], at: usize) {
+        write_number(out, at, self, 8);
+    }
 }
 
 // The scale factor of a slice.

@@ -25,12 +25,6 @@ pub loop-j-init : goal.loop-j-init
 unfolding written laid
 loop-j-init c = (omega arith, refl, sym (over_nil _ _))
 
-pub offset_bounds-next-j : goal.offset_bounds-next-j
-offset_bounds-next-j c = omega arith
-
-pub bounds-next-j : goal.bounds-next-j
-bounds-next-j c = omega arith
-
 -- a channel's predictor stands until its own turn
 state_is : (c : At-loop-j) → lms_of c.loop-j.next c.loop-j.j ≡ lms_of c.args.states c.loop-j.j
 state_is c =
@@ -48,38 +42,13 @@ long c =
     let args = c.args in
     rw c.loop-j.invariant.2 (length_blocks 8 _ (λ k. length_bytes 8 _) args.out.now args.at c.loop-j.j (omega (arith, c.requires.room)))
 
-pub overflow_add-start : goal.overflow_add-start
-overflow_add-start c = omega (arith, last_inside _ c.args.start c.loop-j.j c.args.channels c.args.count c.requires.small.1 c.loop-j-test.true c.requires.whole)
-
 pub encode_slice-slice-requires : goal.encode_slice-slice-requires
 encode_slice-slice-requires c =
     let few = c.requires.small in
     record {
-      tab_value = (c.requires.table, rw (state_is (goal.at.encode_slice-slice-requires c).At-loop-j) (c.requires.weights c.loop-j.j c.loop-j-test.true));
-      quick_value = c.requires.quick;
+      weights_within = rw (state_is (goal.at.encode_slice-slice-requires c).At-loop-j) (c.requires.weights c.loop-j.j c.loop-j-test.true);
       n_nonzero = (few.1, few.2, last_inside _ c.args.start c.loop-j.j c.args.channels c.args.count few.1 c.loop-j-test.true c.requires.whole);
     }
-
-pub offset_bounds-next-j-in-loop-j : goal.offset_bounds-next-j-in-loop-j
-offset_bounds-next-j-in-loop-j c = omega arith
-
-pub bounds-next-j-in-loop-j : goal.bounds-next-j-in-loop-j
-bounds-next-j-in-loop-j c = omega arith
-
-pub overflow_mul-j : goal.overflow_mul-j
-overflow_mul-j c = omega arith
-
-pub overflow_add-at : goal.overflow_add-at
-overflow_add-at c = omega (arith, c.requires.room)
-
-pub write_u64-requires : goal.write_u64-requires
-write_u64-requires c = omega (arith, long (goal.at.write_u64-requires c).At-loop-j, c.requires.room)
-
-pub overflow_step-j : goal.overflow_step-j
-overflow_step-j c = omega arith
-
-pub loop-j-smaller : goal.loop-j-smaller
-loop-j-smaller c = omega arith
 
 pub loop-j-preserved : goal.loop-j-preserved
 unfolding written
@@ -92,16 +61,7 @@ loop-j-preserved c =
       omega arith,
       rw (add-one, zero-add, mul-one, same, c.loop-j.invariant.1),
       -- the word is stored behind those of the channels before it
-      c.write_u64.ensures
+      c.write_be.ensures
           ∙ over_put c.loop-j.out (args.at + 8 * j) 8 c.encode_slice-slice.result.word (omega (arith, long l, c.requires.room))
           ∙ rw (same, c.loop-j.invariant.2, add-one) (next_block 8 (λ k. bytes_of 8 (word k)) (λ k. length_bytes 8 (word k)) args.out.now args.at j (args.at + 8 * j) refl (omega (arith, c.requires.room))),
     )
-
-pub shape_of-out : goal.shape_of-out
-shape_of-out c = long (goal.at.shape_of-out c).At-loop-j
-
-pub returns : goal.returns
-returns c =
-    let l = c.loop-j in
-    let done : l.j ≡ c.args.channels = omega arith in
-    record { states = l.invariant.1 ∙ rw done; bytes = l.invariant.2 ∙ rw done }

@@ -23,7 +23,7 @@ use Rattle.body.proofs.Laids.{laid_ext, length_blocks, length_words, next_block,
 use Rattle.refusal.proofs.Lents.{over_nil}
 use Rattle.body.proofs.put_groups.Invariants.{group}
 use Rattle.body.proofs.put_groups.Goals as goal
-use Rattle.body.proofs.put_groups.Goals.{After-put_group-after, After-slice_len-count, At-loop-g, In-loop-g}
+use Rattle.body.proofs.put_groups.Goals.{After-put_group-after, After-min-count, At-loop-g, In-loop-g}
 
 pub loop-g-init : goal.loop-g-init
 unfolding lms_before laid
@@ -49,11 +49,11 @@ pub overflow_sub-n : goal.overflow_sub-n
 overflow_sub-n c = omega (arith, some (goal.at.overflow_sub-n c).In-loop-g)
 
 -- and its samples are there
-inside : (c : After-slice_len-count) → 20 * c.loop-g.g < c.args.n → 20 * c.loop-g.g * c.args.channels + c.slice_len-count.result * c.args.channels ≤ length c.args.samples.now
+inside : (c : After-min-count) → 20 * c.loop-g.g < c.args.n → 20 * c.loop-g.g * c.args.channels + c.min-count.result * c.args.channels ≤ length c.args.samples.now
 inside c more =
     let args = c.args in
-    let few : 20 * c.loop-g.g + c.slice_len-count.result ≤ args.n = omega (arith, c.slice_len-count.ensures, more, min-le_right 20 (args.n - 20 * c.loop-g.g)) in
-    group_inside (length args.samples.now) args.n args.channels c.loop-g.g c.slice_len-count.result few c.requires.whole
+    let few : 20 * c.loop-g.g + c.min-count.result ≤ args.n = omega (arith, c.min-count.ensures, more, min-le_right 20 (args.n - 20 * c.loop-g.g)) in
+    group_inside (length args.samples.now) args.n args.channels c.loop-g.g c.min-count.result few c.requires.whole
 
 -- the output is as long as it was
 long : (c : At-loop-g) → length c.loop-g.out ≡ length c.args.out.now
@@ -66,16 +66,7 @@ long c =
 pub overflow_mul-done-in-loop-g : goal.overflow_mul-done-in-loop-g
 overflow_mul-done-in-loop-g c =
     let p = goal.at.overflow_mul-done-in-loop-g c in
-    omega (arith, inside p.After-slice_len-count (some p.In-loop-g).0)
-
-pub overflow_mul-g : goal.overflow_mul-g
-overflow_mul-g c = omega (arith, room (goal.at.overflow_mul-g c).In-loop-g)
-
-pub overflow_mul-g-in-loop-g : goal.overflow_mul-g-in-loop-g
-overflow_mul-g-in-loop-g c = omega (arith, room (goal.at.overflow_mul-g-in-loop-g c).In-loop-g)
-
-pub overflow_add-at : goal.overflow_add-at
-overflow_add-at c = omega (arith, room (goal.at.overflow_add-at c).In-loop-g)
+    omega (arith, inside p.After-min-count (some p.In-loop-g).0)
 
 pub put_group-after-requires : goal.put_group-after-requires
 put_group-after-requires c =
@@ -83,21 +74,13 @@ put_group-after-requires c =
     let args = c.args in
     let more = some p.In-loop-g in
     record {
-      table = c.dequant_tab-tab.ensures;
-      quick = (c.quick_tab-quick.ensures, c.reciprocals-reciprocals.ensures, c.quick_codes-coding.ensures);
-      small = (c.requires.small.1, omega (arith, c.slice_len-count.ensures, more), omega (arith, c.slice_len-count.ensures, min-le_left 20 (args.n - 20 * c.loop-g.g)));
-      whole = inside p.After-slice_len-count more.0;
+      small = (c.requires.small.1, omega (arith, c.min-count.ensures, more), omega (arith, c.min-count.ensures, min-le_left 20 (args.n - 20 * c.loop-g.g)));
+      whole = inside p.After-min-count more.0;
       room = omega (arith, room p.In-loop-g, long p.At-loop-g);
       weights = λ j h.
           rw (c.loop-g.invariant.2 j h)
           (within_more (omega (arith, more)) (before_within (lms_of args.states j) (strided args.n args.samples.now j args.channels) c.loop-g.g (omega (arith, more, strided_length args.n args.samples.now j args.channels)) (c.requires.weights j h)));
     }
-
-pub overflow_step-g : goal.overflow_step-g
-overflow_step-g c = omega arith
-
-pub loop-g-smaller : goal.loop-g-smaller
-loop-g-smaller c = omega arith
 
 -- the predictors after the group
 states_again : (c : After-put_group-after) → 20 * c.loop-g.g < c.args.n →
@@ -106,7 +89,7 @@ states_again c more k h =
     let args = c.args in
     rw (c.put_group-after.ensures.states, add-one)
     (written_here _ c.loop-g.next args.channels k no_lms h (omega (arith, c.loop-g.invariant.1, c.requires.small.1))
-    ∙ rw c.slice_len-count.ensures (next_lms args.n args.channels args.samples.now (lms_of args.states k) k c.loop-g.g more (lms_of c.loop-g.next k) (c.loop-g.invariant.2 k h)))
+    ∙ rw c.min-count.ensures (next_lms args.n args.channels args.samples.now (lms_of args.states k) k c.loop-g.g more (lms_of c.loop-g.next k) (c.loop-g.invariant.2 k h)))
 
 -- and the group's bytes behind those before it
 bytes_again : (c : After-put_group-after) → 20 * c.loop-g.g < c.args.n → c.args.at + 8 * (c.loop-g.g * c.args.channels) + 8 * c.args.channels ≤ length c.args.out.now →
@@ -116,7 +99,7 @@ bytes_again c more fits =
     let g = c.loop-g.g in
     c.put_group-after.ensures.bytes
     ∙ rw (
-      c.slice_len-count.ensures,
+      c.min-count.ensures,
       laid_ext args.channels _ (λ j. bytes_of 8 (slice_word (lms_of args.states j) (strided args.n args.samples.now j args.channels) g))
           (λ j h. ap (bytes_of 8) (next_word args.n args.channels args.samples.now (lms_of args.states j) j g more (lms_of c.loop-g.next j) (c.loop-g.invariant.2 j h))),
       c.loop-g.invariant.3,
@@ -133,12 +116,3 @@ loop-g-preserved c =
       states_again p.After-put_group-after more,
       bytes_again p.After-put_group-after more (room p.In-loop-g),
     )
-
-pub shape_of-out : goal.shape_of-out
-shape_of-out c = long (goal.at.shape_of-out c).At-loop-g
-
-pub returns : goal.returns
-returns c =
-    let l = c.loop-g in
-    let done : l.g ≡ slices_of c.args.n = omega (arith, c.slices_of-slices.ensures) in
-    record { states = λ j h. l.invariant.2 j h ∙ rw done; bytes = l.invariant.3 ∙ rw done }

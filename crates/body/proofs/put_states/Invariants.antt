@@ -3,7 +3,7 @@ use mathlib.Core.Path.{◌≡◌}
 use mathlib.Core.List.{List}
 use Rattle.lms.specs.declared.QoaLms.{QoaLms}
 use Rattle.format.specs.Predictor.{lms_of}
-use Prim.Native.Nat.{ℕ, ◌-◌, ◌≤◌}
+use Prim.Native.Nat.{ℕ}
 use Rattle.refusal.specs.Rules.{good}
 use Rattle.refusal.specs.Lent.{laid_over}
 use Rattle.body.specs.Laid.{laid, lms_bytes}
@@ -14,7 +14,4 @@ abbrev pub stored : List QoaLms → ℕ → List ℕ
 stored states k = lms_bytes (lms_of states k)
 
 abbrev pub invariant-loop-j : goal.invariant-loop-j
-invariant-loop-j l = (l.j ≤ l.channels) × (l.out ≡ laid_over l.initial.out l.at (good (laid l.j (stored l.states))))
-
-abbrev pub decreases-loop-j : goal.decreases-loop-j
-decreases-loop-j l = l.channels - l.j
+invariant-loop-j l = l.out ≡ laid_over l.initial.out l.at (good (laid l.j (stored l.fn.states)))

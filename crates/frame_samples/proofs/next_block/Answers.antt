@@ -14,7 +14,7 @@ use Rattle.into.proofs.Sound.{sound}
 use Rattle.frame_samples.proofs.Entering.{length_samples}
 use Rattle.frame_samples.proofs.Going.{block_done}
 use Rattle.frame_samples.proofs.next_block.Goals as goal
-use Rattle.frame_samples.proofs.next_block.Goals.{After-lesser-count, Start}
+use Rattle.frame_samples.proofs.next_block.Goals.{After-min-count, Start}
 
 pub samples_left-requires : goal.samples_left-requires
 samples_left-requires c =
@@ -31,17 +31,17 @@ sixteen_bits : (c : Start) → c.args.p.decoder.frame.samples ≤ 65535
 sixteen_bits c = search rules
 
 -- the count
-count_is : (c : After-lesser-count) → c.lesser-count.result ≡ min (length c.args.block.now) (total (view c.args.p.decoder))
-count_is c = c.lesser-count.ensures ∙ ap (min (length c.args.block.now)) c.samples_left.ensures
+count_is : (c : After-min-count) → c.min-count.result ≡ min (length c.args.block.now) (total (view c.args.p.decoder))
+count_is c = c.min-count.ensures ∙ ap (min (length c.args.block.now)) c.samples_left.ensures
 
-pub overflow_add-done : goal.overflow_add-done
-overflow_add-done c =
-    let at = goal.at.overflow_add-done c in
+pub overflow_add-result : goal.overflow_add-result
+overflow_add-result c =
+    let at = goal.at.overflow_add-result c in
     let bytes : AreBytes c.args.frame.now = λ i. search rules in
-    omega (arith, count_is at.After-lesser-count, c.requires.after.left, few_samples c.args.frame.now bytes)
+    omega (arith, count_is at.After-min-count, c.requires.after.left, few_samples c.args.frame.now bytes)
 
 pub returns : goal.returns
 returns c =
     let at = goal.at.returns c in
-    block_done c.args.frame.now c.args.p c.args.block.now c.args.bytes.now c.decode_into-made.result _ _ c.lesser-count.result
-    c.requires.after (sixteen_bits at.Start) (count_is at.After-lesser-count) c.decode_into-made.ensures c.put_samples.ensures
+    block_done c.args.frame.now c.args.p c.args.block.now c.args.bytes.now c.decode_into-made.result _ _ c.min-count.result
+    c.requires.after (sixteen_bits at.Start) (count_is at.After-min-count) c.decode_into-made.ensures (search rules)

@@ -30,21 +30,21 @@ there c =
     let product = ap (λ (k : ℕ). k * c.args.d.frame.channels) c.slices_of-slices.ensures in
     omega (arith, c.requires.whole)
 
-pub run_groups-run-requires : goal.run_groups-run-requires
-run_groups-run-requires c =
-    let s = facts (goal.at.run_groups-run-requires c).Start in
-    record { small = (s.few_channels, omega (arith, c.slices_of-slices.ensures, slices_most c.args.d.remaining (small (goal.at.run_groups-run-requires c).Start))); whole = there (goal.at.run_groups-run-requires c).After-slices_of-slices; weights = s.weights }
+pub run_groups-requires : goal.run_groups-requires
+run_groups-requires c =
+    let s = facts (goal.at.run_groups-requires c).Start in
+    record { small = (s.few_channels, omega (arith, c.slices_of-slices.ensures, slices_most c.args.d.remaining (small (goal.at.run_groups-requires c).Start))); whole = there (goal.at.run_groups-requires c).After-slices_of-slices; weights = s.weights }
 
-pub overflow_mul-state : goal.overflow_mul-state
-overflow_mul-state c = omega (arith, there (goal.at.overflow_mul-state c).After-slices_of-slices, c.well_formed)
+pub overflow_mul-result : goal.overflow_mul-result
+overflow_mul-result c = omega (arith, there (goal.at.overflow_mul-result c).After-slices_of-slices, c.well_formed)
 
-pub overflow_mul-state-2 : goal.overflow_mul-state-2
-overflow_mul-state-2 c = omega (arith, there (goal.at.overflow_mul-state-2 c).After-slices_of-slices, c.well_formed)
+pub overflow_mul-result-2 : goal.overflow_mul-result-2
+overflow_mul-result-2 c = omega (arith, there (goal.at.overflow_mul-result-2 c).After-slices_of-slices, c.well_formed)
 
-pub overflow_add-state : goal.overflow_add-state
-overflow_add-state c = omega (arith, there (goal.at.overflow_add-state c).After-slices_of-slices, c.well_formed)
+pub overflow_add-result : goal.overflow_add-result
+overflow_add-result c = omega (arith, there (goal.at.overflow_add-result c).After-slices_of-slices, c.well_formed)
 
 pub returns : goal.returns
 returns c =
     let args = c.args in
-    rw (c.run_groups-run.ensures, c.slices_of-slices.ensures) (view_dropped args.bytes.now args.d (omega (arith, long (goal.at.returns c).Start, (facts (goal.at.returns c).Start).few_channels)))
+    rw (c.run_groups.ensures, c.slices_of-slices.ensures) (view_dropped args.bytes.now args.d (omega (arith, long (goal.at.returns c).Start, (facts (goal.at.returns c).Start).few_channels)))

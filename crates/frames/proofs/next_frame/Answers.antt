@@ -4,7 +4,6 @@ use mathlib.Core.Bool.{Bool, true}
 use Prim.Native.Nat.{ℕ, ◌+◌, ◌*◌, ◌≤◌, ◌<◌}
 use native.Mathlib.Nat.{mul-le-mul}
 use native.Mathlib.Omega.{arith}
-use borrow.Author.Tests.{not-false, not-true}
 use lib.ListN.{length}
 use Rattle.format.specs.Format.{max_channels, slices_of}
 use Rattle.format.specs.Grammar.{tail_ok}
@@ -24,12 +23,12 @@ use Rattle.frames.proofs.next_frame.Goals.{After-slices_of-slices, After-tail_ok
 pub returns-then-not-is_good : goal.returns-then-not-is_good
 returns-then-not-is_good c =
     let args = c.args in
-    next_bad args.bytes.now args.d c.refused_frame.result (sym c.is_good.ensures ∙ not-true _ c.if-not-is_good.true-raw) c.refused_frame.ensures.0 c.refused_frame.ensures.1
+    next_bad args.bytes.now args.d c.refused.result (sym c.is_good.ensures ∙ c.if-not-is_good.true) c.refused.ensures.0 c.refused.ensures.1
 
 -- ---- a good state
 
 is-good : (c : Else-not-is_good) → good_state (view c.args.d) (length c.args.bytes.now) ≡ true
-is-good c = sym c.is_good.ensures ∙ not-false _ c.if-not-is_good.false-raw
+is-good c = sym c.is_good.ensures ∙ c.if-not-is_good.false
 
 facts : (c : Else-not-is_good) → Sound c.args.d (length c.args.bytes.now)
 facts c = sound _ _ (is-good c)
@@ -58,18 +57,20 @@ slices_small : (c : After-slices_of-slices) → c.slices_of-slices.result * (sta
 slices_small c = mul-le-mul {n₂ = 3277} {m₂ = max_channels} (omega (arith, c.slices_of-slices.ensures, slices_most (start_of c).args.d.remaining (small (start_of c)))) (facts (first-of c)).few_channels
 
 pub overflow_mul-place : goal.overflow_mul-place
-overflow_mul-place c = omega (arith, slices_small c)
+overflow_mul-place c = omega (arith, slices_small (goal.at.overflow_mul-place c).After-slices_of-slices)
 
 pub overflow_mul-place-2 : goal.overflow_mul-place-2
-overflow_mul-place-2 c = omega (arith, slices_small c)
+overflow_mul-place-2 c = omega (arith, slices_small (goal.at.overflow_mul-place-2 c).After-slices_of-slices)
 
 pub overflow_add-place : goal.overflow_add-place
-overflow_add-place c = omega (arith, slices_small c, (facts (first-of c)).place, (start_of c).well_formed)
+overflow_add-place c =
+    let before = (goal.at.overflow_add-place c).After-slices_of-slices in
+    omega (arith, slices_small before, (facts (first-of before)).place, (start_of before).well_formed)
 
 pub returns-then-bytes-place : goal.returns-then-bytes-place
 returns-then-bytes-place c =
     let args = (start_of (goal.at.returns-then-bytes-place c).After-slices_of-slices).args in
-    next_cut args.bytes.now args.d c.refused_frame-then-bytes-place.result (is-good (first-of (goal.at.returns-then-bytes-place c).After-slices_of-slices)) (rw (place_is (goal.at.returns-then-bytes-place c).After-slices_of-slices) c.if-bytes-place.true) c.refused_frame-then-bytes-place.ensures.0 c.refused_frame-then-bytes-place.ensures.1
+    next_cut args.bytes.now args.d c.refused-then-bytes-place.result (is-good (first-of (goal.at.returns-then-bytes-place c).After-slices_of-slices)) (rw (place_is (goal.at.returns-then-bytes-place c).After-slices_of-slices) c.if-bytes-place.true) c.refused-then-bytes-place.ensures.0 c.refused-then-bytes-place.ensures.1
 
 whole : (c : Else-bytes-place) →
     let args = (start_of (goal.at.Else-bytes-place c).After-slices_of-slices).args in
@@ -99,8 +100,8 @@ pub returns-then-not-tail_ok : goal.returns-then-not-tail_ok
 returns-then-not-tail_ok c =
     let tail = (goal.at.returns-then-not-tail_ok c).After-tail_ok in
     let args = c.args in
-    next_entered args.bytes.now args.d c.refused_frame-then-not-tail_ok.result (is-good (first-of (slices tail))) (whole (rest tail))
-    (enter_tail args.bytes.now args.d (gone tail) c.refused_frame-then-not-tail_ok.result (short tail) (sym (tail_is tail) ∙ c.if-not-tail_ok.true) c.refused_frame-then-not-tail_ok.ensures.0 c.refused_frame-then-not-tail_ok.ensures.1)
+    next_entered args.bytes.now args.d c.refused-then-not-tail_ok.result (is-good (first-of (slices tail))) (whole (rest tail))
+    (enter_tail args.bytes.now args.d (gone tail) c.refused-then-not-tail_ok.result (short tail) (sym (tail_is tail) ∙ c.if-not-tail_ok.true) c.refused-then-not-tail_ok.ensures.0 c.refused-then-not-tail_ok.ensures.1)
 
 pub drop_rest-requires : goal.drop_rest-requires
 unfolding view

@@ -1,6 +1,6 @@
 -- `frames::run_groups` meets its contract. The loop's invariant: the predictors are those after `g` groups.
 -- The measure is what is left of the groups. Assumes nothing.
-use mathlib.Core.Path.{◌≡◌, refl, sym, ◌∙◌}
+use mathlib.Core.Path.{refl, sym, ◌∙◌}
 use Prim.Native.Nat.{◌+◌, ◌*◌, ◌≤◌}
 use native.Mathlib.Nat.{mul-le-mul_right}
 use native.Mathlib.Omega.{arith}
@@ -13,9 +13,6 @@ use Rattle.into.proofs.Counts.{slices_one}
 use Rattle.frames.proofs.FrameLaws.{groups_still}
 use Rattle.frames.proofs.run_groups.Goals as goal
 use Rattle.frames.proofs.run_groups.Goals.{In-loop-g}
-
-pub dequant_tab-tab-requires : goal.dequant_tab-tab-requires
-dequant_tab-tab-requires c = tt
 
 pub loop-g-init : goal.loop-g-init
 loop-g-init c =
@@ -30,29 +27,9 @@ group-there c =
     let within : (c.loop-g.g + 1) * c.args.channels ≤ c.args.groups * c.args.channels = mul-le-mul_right c.args.channels (omega (arith, c.loop-g-test.true)) in
     omega (arith, c.requires)
 
-pub overflow_mul-place : goal.overflow_mul-place
-overflow_mul-place c = omega (arith, group-there c, c.well_formed)
-
-pub overflow_mul-place-in-loop-g : goal.overflow_mul-place-in-loop-g
-overflow_mul-place-in-loop-g c = omega (arith, group-there c, c.well_formed)
-
-pub overflow_add-place : goal.overflow_add-place
-overflow_add-place c = omega (arith, group-there c, c.well_formed)
-
-pub slice_bounds-decode_groups-end : goal.slice_bounds-decode_groups-end
-slice_bounds-decode_groups-end c = sym c.loop-g.invariant.2
-
 pub decode_groups-next-requires : goal.decode_groups-next-requires
 decode_groups-next-requires c =
-    let l = c.before.before.before in
-    let tabled = l.before in
-    let few = c.requires.small.0 in record { table = c.dequant_tab-tab.ensures; small = (few, lit≤ tt); whole = rw (slices_one 20 (lit< tt) (lit≤ tt)) (omega (arith, group-there (goal.at.decode_groups-next-requires c).In-loop-g)); room = omega (arith, c.loop-g.invariant.2); weights = λ j h. rw c.loop-g.invariant.1 (within_more (omega (arith, c.requires.small.1)) (groups_within c.args.bytes.now c.args.at c.args.channels c.args.states c.loop-g.g c.requires.weights j h)) }
-
-pub overflow_step-g : goal.overflow_step-g
-overflow_step-g c = omega arith
-
-pub loop-g-smaller : goal.loop-g-smaller
-loop-g-smaller c = omega arith
+    let few = c.requires.small.0 in record { small = (few, lit≤ tt); whole = rw (slices_one 20 (lit< tt) (lit≤ tt)) (omega (arith, group-there (goal.at.decode_groups-next-requires c).In-loop-g)); room = omega (arith, c.loop-g.invariant.2); weights = λ j h. rw c.loop-g.invariant.1 (within_more (omega (arith, c.requires.small.1)) (groups_within c.args.bytes.now c.args.at c.args.channels c.args.states c.loop-g.g c.requires.weights j h)) }
 
 pub loop-g-preserved : goal.loop-g-preserved
 loop-g-preserved c =
@@ -62,9 +39,3 @@ loop-g-preserved c =
       c.decode_groups-next.ensures.states ∙ rw (c.loop-g.invariant.1, one) (sym (groups_more args.bytes.now args.at args.channels args.states c.loop-g.g 1)),
       c.decode_groups-next.auto.out ∙ c.loop-g.invariant.2,
     )
-
-pub returns : goal.returns
-returns c =
-    let l = c.loop-g in
-    let done : l.g ≡ c.args.groups = omega arith in
-    l.invariant.1 ∙ rw done

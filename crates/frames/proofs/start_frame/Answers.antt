@@ -11,12 +11,12 @@ use Rattle.frames.proofs.start_frame.Goals.{Start}
 long : (c : Start) → length c.args.d.lms ≡ max_channels
 long c = search length_mapped
 
-pub read_states-lms-requires : goal.read_states-lms-requires
+pub read_states-requires : goal.read_states-requires
 unfolding state_end
-read_states-lms-requires c = (c.requires.1, omega (arith, c.requires))
+read_states-requires c = (c.requires.1, omega (arith, c.requires))
 
 pub returns : goal.returns
 returns c v mode-is at-is =
     let args = c.args in
-    rw (c.state_end.ensures, c.frame_facts-frame.ensures, c.read_states-lms.ensures)
+    rw (c.state_end.ensures, c.from.ensures, c.read_states.ensures)
     (view_started args.bytes.now args.d args.place args.h c.requires.0 (omega (arith, long (goal.at.returns c).Start, c.requires.1)) v mode-is at-is)

@@ -21,23 +21,6 @@ pub loop-j-init : goal.loop-j-init
 unfolding written interleaved
 loop-j-init c = (omega arith, refl, refl)
 
-pub offset_bounds-next-j : goal.offset_bounds-next-j
-offset_bounds-next-j c = omega arith
-
-pub bounds-next-j : goal.bounds-next-j
-bounds-next-j c = omega arith
-
-pub overflow_mul-j : goal.overflow_mul-j
-overflow_mul-j c = omega arith
-
-pub overflow_add-at : goal.overflow_add-at
-overflow_add-at c =
-    omega (arith, c.well_formed, c.requires)
-
-pub overflow_add-start : goal.overflow_add-start
-overflow_add-start c =
-    omega (arith, c.well_formed, c.requires)
-
 -- a channel's predictor stands until its own turn
 state_is : (c : At-loop-j) → lms_of c.loop-j.next c.loop-j.j ≡ lms_of c.args.states c.loop-j.j
 state_is c =
@@ -61,23 +44,10 @@ samples_fit c k h =
 pub decode_channel-after-requires : goal.decode_channel-after-requires
 decode_channel-after-requires c =
     record {
-      table = c.requires.table;
       small = (rw (state_is (goal.at.decode_channel-after-requires c).At-loop-j) (c.requires.weights c.loop-j.j c.loop-j-test.true), c.requires.small.1);
       whole = bytes_fit (goal.at.decode_channel-after-requires c).In-loop-j;
       room = samples_fit (goal.at.decode_channel-after-requires c).In-loop-j;
     }
-
-pub offset_bounds-next-j-in-loop-j : goal.offset_bounds-next-j-in-loop-j
-offset_bounds-next-j-in-loop-j c = omega arith
-
-pub bounds-next-j-in-loop-j : goal.bounds-next-j-in-loop-j
-bounds-next-j-in-loop-j c = omega arith
-
-pub overflow_step-j : goal.overflow_step-j
-overflow_step-j c = omega arith
-
-pub loop-j-smaller : goal.loop-j-smaller
-loop-j-smaller c = omega arith
 
 pub loop-j-preserved : goal.loop-j-preserved
 unfolding written interleaved
@@ -88,9 +58,6 @@ loop-j-preserved c =
       rw (add-one, zero-add, mul-one, c.decode_channel-after.ensures.state, words_are, state_is (goal.at.loop-j-preserved c).At-loop-j, c.loop-j.invariant.1),
       rw (c.decode_channel-after.ensures.samples, add-one, words_are, state_is (goal.at.loop-j-preserved c).At-loop-j, c.loop-j.invariant.2),
     )
-
-pub shape_of-out : goal.shape_of-out
-shape_of-out c = rw c.loop-j.invariant.2 (length_interleaved _ _ _ _ _ _)
 
 pub returns : goal.returns
 unfolding groups_states

@@ -7,5 +7,5 @@ pub returns : goal.returns
 unfolding view
 returns c =
     let args = c.args in
-    let range = c.pending_range-range.ensures in
+    let range = c.pending_range-next.ensures in
     λ bs. rw (range.0, range.1) (view_pending_left bs args.d args.given args.count c.requires.1)

@@ -1,58 +1,33 @@
--- `into::copy_out` meets its contract. The loop's invariant: the first `i` samples are stored.
--- The measure is what is left of them. Assumes nothing.
-use mathlib.Core.Path.{◌≡◌, refl, ◌∙◌}
-use Prim.Native.Nat.{◌+◌}
-use native.Mathlib.Nat.{mul-one}
-use native.Mathlib.Numerals.{add-one}
+-- `into::copy_out` meets its contract. Assumes nothing.
+use mathlib.Core.Path.{◌≡◌, ap, sym, ◌∙◌}
+use mathlib.Core.List.{List, ◌++◌}
+use Prim.Native.Nat.{ℕ, ◌+◌, ◌-◌, ◌≤◌}
 use native.Mathlib.Omega.{arith}
-use lib.IntN.{pos}
-use lib.ListN.{get_or}
-use mir.Syntax.{w16}
-use Rattle.wrap.proofs.Integers.{returned}
+use lib.IntN.{ℤ, pos}
+use lib.ListN.{get_or, length, take}
+use lib.Seq.{drop-drop}
+use borrow.Rule.Slice.PartMut.{put_mid}
+use Rattle.std.proofs.lemmas.List.Edits.{get_or-between, length-between}
+use Rattle.std.specs.List.{between}
 use Rattle.word.specs.Parts.{written}
-use Rattle.word.proofs.Writes.{length_written}
+use Rattle.word.specs.Table.{table}
+use Rattle.word.proofs.Tables.{table_ext, table_of}
+use Rattle.word.proofs.Writes.{written_list}
 use Rattle.into.proofs.copy_out.Goals as goal
 
-pub loop-i-init : goal.loop-i-init
-unfolding written
-loop-i-init c = (omega arith, refl)
-
-pub overflow_add-sample : goal.overflow_add-sample
-overflow_add-sample c = omega arith
-
-pub offset_bounds-from-next : goal.offset_bounds-from-next
-offset_bounds-from-next c = omega arith
-
-pub bounds-from-next : goal.bounds-from-next
-bounds-from-next c = omega arith
-
-pub overflow_add-sample-in-loop-i : goal.overflow_add-sample-in-loop-i
-overflow_add-sample-in-loop-i c = omega arith
-
-pub offset_bounds-out-start : goal.offset_bounds-out-start
-offset_bounds-out-start c = omega arith
-
-pub bounds-out-start : goal.bounds-out-start
-bounds-out-start c = rw (c.loop-i.invariant.1, length_written) (omega arith)
-
-pub overflow_step-i : goal.overflow_step-i
-overflow_step-i c = omega arith
-
-pub loop-i-smaller : goal.loop-i-smaller
-loop-i-smaller c = omega arith
-
-pub loop-i-preserved : goal.loop-i-preserved
-unfolding written
-loop-i-preserved c =
-    let args = c.args in
-    let sample = get_or args.from.now (args.next + c.loop-i.i) (pos 0) in
-    (omega arith, rw (add-one, mul-one, returned w16 sample c.sample-1.given refl, c.loop-i.invariant.1))
-
-pub shape_of-out : goal.shape_of-out
-shape_of-out c = rw c.loop-i.invariant.1 (length_written _ _ _ _ _)
+-- a part of a list, copied into a part of another that is as long
+copied : (from out : List ℤ) (next start n k m : ℕ) → next + n ≤ length from → start + n ≤ length out → k ≡ next + n → m ≡ n
+    → put_mid start m out (between next k from) ≡ written (λ i. get_or from (next + i) (pos 0)) out start 1 n
+copied from out next start n k m there room k-is m-is =
+    let part : List ℤ = between next k from in
+    let long : length part ≡ n = length-between from next k (omega arith) ∙ omega arith in
+    let same : table n (λ i. get_or from (next + i) (pos 0)) ≡ part =
+    table_ext n (λ i. get_or from (next + i) (pos 0)) (λ i. get_or part i (pos 0)) (λ i h. sym (get_or-between from next k i (pos 0) (omega arith)))
+    ∙ table_of n part (pos 0) long in
+    rw (m-is, written_list (λ i. get_or from (next + i) (pos 0)) out start n room, same) (ap (λ (l : List ℤ). take start out ++ (part ++ l)) (drop-drop n start out))
 
 pub returns : goal.returns
 returns c =
-    let l = c.loop-i in
-    let done : l.i ≡ c.args.n = omega arith in
-    l.invariant.1 ∙ rw done
+    let args = c.args in
+    rw c.copy_from_slice.ensures.after
+    (copied args.from.now args.out.now args.next args.start args.n (args.next + args.n) (args.start + args.n - args.start) (omega arith) (omega arith) (omega arith) (omega arith))

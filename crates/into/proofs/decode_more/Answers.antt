@@ -16,7 +16,7 @@ use Rattle.format.specs.Format.{max_channels, pending_len, slices_of}
 use Rattle.groups.specs.Groups.{groups_at}
 use Rattle.state.specs.View.{view}
 use Rattle.into.specs.Into.{groups_for}
-use Rattle.into.proofs.Counts.{Split, factor_some, groups_are, last_few, last_le, rest_le, slices_whole, split_at, whole_needed, whole_there}
+use Rattle.into.proofs.Counts.{Split, factor_some, groups_are, last_few, rest_le, slices_whole, split_at, whole_needed, whole_there}
 use Rattle.into.proofs.Coming.{last_aside, stored_from}
 use Rattle.into.proofs.Sound.{Sound, length_mapped, run_ready, sound}
 use Rattle.into.proofs.Taken.{view_more_left}
@@ -80,16 +80,6 @@ copy_out-requires c =
     let s = facts (goal.at.copy_out-requires c).Start in
     record { there = omega (arith, s.in_order, s.one_group, s.few_channels); room = omega (arith, room (goal.at.copy_out-requires c).Start) }
 
-pub nonzero_div-whole : goal.nonzero_div-whole
-nonzero_div-whole c = omega (arith, some_channels (goal.at.nonzero_div-whole c).Start)
-
-pub nonzero_rem-rest : goal.nonzero_rem-rest
-nonzero_rem-rest c = omega (arith, some_channels (goal.at.nonzero_rem-rest c).Start)
-
-pub overflow_mul-full : goal.overflow_mul-full
-overflow_mul-full c =
-    omega (arith, whole_le (goal.at.overflow_mul-full c).Start, small (goal.at.overflow_mul-full c).Start)
-
 -- the pending samples, as they are stored
 first_out : (c : After-copy_out) →
     c.copy_out.new.out ≡ written (λ i. get_or c.args.d.pending (c.args.d.next + i) (pos 0)) c.args.out.now 0 1 (kept (goal.at.After-copy_out c).Start)
@@ -101,19 +91,10 @@ first-length c = rw (first_out c) (length_written _ _ _ _ _)
 
 pub decode_groups-run-requires : goal.decode_groups-run-requires
 decode_groups-run-requires c =
-    let first = c.before.before.before.before in
-    let s = facts (goal.at.decode_groups-run-requires c).Start in record { table = c.dequant_tab-tab.ensures; small = (s.few_channels, omega (arith, whole_le (goal.at.decode_groups-run-requires c).Start, small (goal.at.decode_groups-run-requires c).Start)); whole = rw slices_whole (omega (arith, whole-bytes (goal.at.decode_groups-run-requires c).Start)); room = rw (first-length (goal.at.decode_groups-run-requires c).After-copy_out) (omega (arith, room (goal.at.decode_groups-run-requires c).Start, parts (goal.at.decode_groups-run-requires c).Start)); weights = λ j h. within_more (lit≤ tt) (s.weights j h) }
+    let s = facts (goal.at.decode_groups-run-requires c).Start in record { small = (s.few_channels, omega (arith, whole_le (goal.at.decode_groups-run-requires c).Start, small (goal.at.decode_groups-run-requires c).Start)); whole = rw slices_whole (omega (arith, whole-bytes (goal.at.decode_groups-run-requires c).Start)); room = rw (first-length (goal.at.decode_groups-run-requires c).After-copy_out) (omega (arith, room (goal.at.decode_groups-run-requires c).Start, parts (goal.at.decode_groups-run-requires c).Start)); weights = λ j h. within_more (lit≤ tt) (s.weights j h) }
 
 pub overflow_sub-left : goal.overflow_sub-left
 overflow_sub-left c = whole_le (goal.at.overflow_sub-left c).Start
-
-pub overflow_mul-place : goal.overflow_mul-place
-overflow_mul-place c =
-    omega (arith, whole-bytes (goal.at.overflow_mul-place c).Start, c.well_formed)
-
-pub overflow_mul-place-2 : goal.overflow_mul-place-2
-overflow_mul-place-2 c =
-    omega (arith, whole-bytes (goal.at.overflow_mul-place-2 c).Start, c.well_formed)
 
 pub overflow_add-place : goal.overflow_add-place
 overflow_add-place c =
@@ -150,12 +131,7 @@ run_is c = c.decode_groups-run.ensures.states ∙ rw slices_whole
 pub decode_groups-last-requires : goal.decode_groups-last-requires
 decode_groups-last-requires c =
     let start = start_of (goal.at.decode_groups-last-requires c).After-last_samples-n in
-    let s = facts start in record { table = c.dequant_tab-tab.ensures; small = (s.few_channels, omega (arith, last_few (split (goal.at.decode_groups-last-requires c).After-last_samples-n))); whole = omega (arith, last-bytes (goal.at.decode_groups-last-requires c).After-last_samples-n); room = omega (arith, last-room (goal.at.decode_groups-last-requires c).After-last_samples-n); weights = rw (run_is (goal.at.decode_groups-last-requires c).After-decode_groups-run) (run_ready start.args.d start.args.bytes.now (whole start) s (omega (arith, whole_le start, small start))) }
-
-pub overflow_mul-whole : goal.overflow_mul-whole
-overflow_mul-whole c =
-    let start = start_of (goal.at.overflow_mul-whole c).After-last_samples-n in
-    omega (arith, parts start, room start, start.well_formed)
+    let s = facts start in record { small = (s.few_channels, omega (arith, last_few (split (goal.at.decode_groups-last-requires c).After-last_samples-n))); whole = omega (arith, last-bytes (goal.at.decode_groups-last-requires c).After-last_samples-n); room = omega (arith, last-room (goal.at.decode_groups-last-requires c).After-last_samples-n); weights = rw (run_is (goal.at.decode_groups-last-requires c).After-decode_groups-run) (run_ready start.args.d start.args.bytes.now (whole start) s (omega (arith, whole_le start, small start))) }
 
 pub overflow_add-kept : goal.overflow_add-kept
 overflow_add-kept c =
@@ -178,12 +154,6 @@ copy_out-requires-2 c =
     let start = start_of (goal.at.copy_out-requires-2 c).After-last_samples-n in
     record { there = omega (arith, rest_le (split (goal.at.copy_out-requires-2 c).After-last_samples-n), last-room (goal.at.copy_out-requires-2 c).After-last_samples-n); room = rw (second-length (goal.at.copy_out-requires-2 c).After-decode_groups-run) (omega (arith, parts start, room start)) }
 
-pub overflow_mul-n : goal.overflow_mul-n
-overflow_mul-n c = omega (arith, last-room (goal.at.overflow_mul-n c).After-last_samples-n)
-
-pub slices_of-requires : goal.slices_of-requires
-slices_of-requires c = omega (arith, last_few (split (goal.at.slices_of-requires c).After-last_samples-n))
-
 abbrev told_of : After-slices_of → After-last_samples-n
 told_of c = (goal.at.After-slices_of c).After-last_samples-n
 
@@ -195,22 +165,19 @@ last-place c =
     let slices = ap (λ (k : ℕ). k * channels (start_of (told_of c))) c.slices_of.ensures in
     omega (arith, last-bytes (told_of c))
 
-pub overflow_mul-state : goal.overflow_mul-state
-overflow_mul-state c = omega (arith, last-place c, (start_of (told_of c)).well_formed)
+pub overflow_mul-result : goal.overflow_mul-result
+overflow_mul-result c = omega (arith, last-place c, (start_of (told_of c)).well_formed)
 
-pub overflow_mul-state-2 : goal.overflow_mul-state-2
-overflow_mul-state-2 c = omega (arith, last-place c, (start_of (told_of c)).well_formed)
+pub overflow_mul-result-2 : goal.overflow_mul-result-2
+overflow_mul-result-2 c = omega (arith, last-place c, (start_of (told_of c)).well_formed)
 
-pub overflow_add-state : goal.overflow_add-state
-overflow_add-state c = omega (arith, last-place c, (start_of (told_of c)).well_formed)
-
-pub overflow_sub-state : goal.overflow_sub-state
-overflow_sub-state c = last_le (split (told_of c))
+pub overflow_add-result : goal.overflow_add-result
+overflow_add-result c = omega (arith, last-place c, (start_of (told_of c)).well_formed)
 
 pub returns : goal.returns
 unfolding view
 returns c =
-    let told = told_of c in
+    let told = told_of (goal.at.returns c).After-slices_of in
     let start = start_of told in
     let d = start.args.d in
     let bs = start.args.bytes.now in
@@ -222,7 +189,7 @@ returns c =
     let fits : m ≤ length aside = rw length-replicate (last-room told) in
     let run = run_is (goal.at.After-last_samples-n told).After-decode_groups-run in
     let last = c.decode_groups-last in
-    let range = c.pending_range-range.ensures in
+    let range = c.pending_range-next.ensures in
     let fresh-is : last.new.out ≡ last_aside bs d (some_channels start) used (whole start) m aside fits =
     last.ensures.samples ∙ ap (λ (states : List QoaLms). written (groups_at bs (d.at + 8 * (whole start * channels start)) (channels start) states) aside 0 1 m) run in
     let place : kept start + whole start * (20 * channels start) ≡ kept start + 20 * whole start * channels start = omega arith in

@@ -1,11 +1,6 @@
 -- `linked_decoder::put_facts` meets its contract. Assumes nothing.
-use native.Mathlib.Omega.{arith}
-use lib.ListN.{length-set}
 use Rattle.linked_decoder.proofs.Linking.{three_put}
 use Rattle.linked_decoder.proofs.put_facts.Goals as goal
-
-pub bounds-facts-1 : goal.bounds-facts-1
-bounds-facts-1 c = simp length-set (omega arith)
 
 pub returns : goal.returns
 returns c =

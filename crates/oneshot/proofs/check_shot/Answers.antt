@@ -2,8 +2,6 @@
 use borrow.Author.Tests.{not-false, not-true}
 use mathlib.Core.Path.{◌≡◌, sym, ◌∙◌}
 use mathlib.Core.Bool.{true}
-use Prim.Native.Nat.{◌^◌}
-use native.Mathlib.Nat.{mul-le-mul}
 use native.Mathlib.Omega.{arith}
 use Rattle.refusal.proofs.Rules.{fires, none_fires}
 use Rattle.word.proofs.Tests.{tests}
@@ -20,9 +18,6 @@ passes c = sym c.is_good_encoder.ensures ∙ not-false _ c.if-not-is_good_encode
 pub returns-then-not-is_good_encoder : goal.returns-then-not-is_good_encoder
 unfolding shot_rules
 returns-then-not-is_good_encoder c = sym (bad_first _ _ (sym c.is_good_encoder.ensures ∙ not-true _ c.if-not-is_good_encoder.true-raw))
-
-pub overflow_mul-total : goal.overflow_mul-total
-overflow_mul-total c = let e = c.args.e in omega (arith, mul-le-mul {n₁ = e.total} {m₁ = e.channels} {n₂ = 2 ^ 32} {m₂ = 255} (omega arith) (omega arith))
 
 pub returns-then-samples-total : goal.returns-then-samples-total
 unfolding shot_rules encoder_view

@@ -1,19 +1,8 @@
 -- `play::decide` meets its contract. Assumes nothing.
-use native.Mathlib.Omega.{arith}
 use mathlib.Core.Path.{ap, sym, ◌∙◌}
 use Rattle.play.specs.declared.Stage.{Stage}
 use Rattle.play.specs.Decisions.{decided, decided_at}
 use Rattle.play.proofs.decide.Goals as goal
-
-pub verdict-requires : goal.verdict-requires
-verdict-requires c =
-    let held = rw c.in-FrameState.is at c.requires.0.header_held in
-    (c.requires.0, omega (arith, held, c.requires.1))
-
-pub body-requires : goal.body-requires
-body-requires c =
-    let held = rw c.in-FrameBody.is at c.requires.0.header_held in
-    (c.requires.0, omega (arith, held, c.requires.1))
 
 pub returns-in-FileHead : goal.returns-in-FileHead
 unfolding decided

@@ -9,9 +9,7 @@ use Rattle.predictors.proofs.read_lms.Goals as goal
 pub returns : goal.returns
 unfolding lms_at
 returns c =
-    let c1 = c.before.before in
-    let a = c.args in
-    let bytes : AreBytes a.bytes.now = λ i. (c.shared_slice_known-1.given i).fits in
-    let history = c.four_of-history.ensures ∙ ap four_of c.read_u64.ensures ∙ four_of_bytes _ _ bytes in
-    let weights = c.four_of-weights.ensures ∙ ap four_of c.read_u64-2.ensures ∙ four_of_bytes _ _ bytes in
+    let bytes : AreBytes c.args.bytes.now = λ i. (c.type_inv.bytes i).fits in
+    let history = c.four_of-history.ensures ∙ ap four_of c.read_be.ensures ∙ four_of_bytes _ _ bytes in
+    let weights = c.four_of-weights.ensures ∙ ap four_of c.read_be-2.ensures ∙ four_of_bytes _ _ bytes in
     λ j. record { history = history j; weights = weights j }

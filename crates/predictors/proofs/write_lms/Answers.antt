@@ -4,6 +4,4 @@ use Rattle.predictors.proofs.write_lms.Goals as goal
 
 pub returns : goal.returns
 unfolding put_lms
-returns c =
-    let c2 = c.before.before in
-    cc (c.write_u64-2.ensures, c.four_word-2.ensures, c.write_u64.ensures, c.four_word.ensures)
+returns c = cc (c.write_be-2.ensures, c.four_word-2.ensures, c.write_be.ensures, c.four_word.ensures)

@@ -27,15 +27,6 @@ taken_is c = rw sub-zero c.gather-taken.ensures.0
 counted_is : (c : After-choose-found) → take (c.args.n - 0) c.gather-taken.result ≡ strided c.args.n c.args.samples.now c.args.start c.args.stride → c.choose-found.result ≡ counted_of c.args.lms (strided c.args.n c.args.samples.now c.args.start c.args.stride)
 counted_is c taken = rw taken at c.choose-found.ensures
 
-pub choose-found-requires : goal.choose-found-requires
-choose-found-requires c =
-    let g = (goal.at.choose-found-requires c).After-gather-taken in
-    record {
-      tab_value = c.requires.tab_value;
-      quick_value = c.requires.quick_value;
-      samples_nonzero = rw (taken_is g) (omega (arith, many g, c.requires.n_nonzero.0), omega (arith, many g, c.requires.n_nonzero.1), c.gather-taken.ensures.1);
-    }
-
 pub fill-requires : goal.fill-requires
 unfolding counted_of
 fill-requires c =

@@ -1,14 +1,14 @@
--- `survey::walk_frames` meets its contract. The invariant: the answer for all frames is that for the frames from `at` on, with what was counted
+-- `survey::walk_frames` meets its contract. The invariant: the answer for all frames is that for the frames of the rest, with what was counted
 -- before them. Assumes nothing.
-use Prim.Native.Nat.{◌+◌, ◌-◌, ◌≤◌}
+use Prim.Native.Nat.{◌+◌, ◌≤◌}
 use mathlib.Core.Path.{◌≡◌}
-use lib.ListN.{length, drop}
+use lib.ListN.{length}
 use Rattle.survey.specs.Parts.{fit_after, reader_for}
 use Rattle.survey.proofs.walk_frames.Given as goal
 
-abbrev pub invariant-loop-at : goal.invariant-loop-at
-invariant-loop-at l =
-    (l.at ≤ length l.bytes) × (l.need ≤ l.room + 1) × (fit_after (reader_for l.kind) l.room 0 (drop l.start l.bytes) ≡ fit_after (reader_for l.kind) l.room l.need (drop l.at l.bytes))
+abbrev pub invariant-loop-rest : goal.invariant-loop-rest
+invariant-loop-rest l =
+    record { capped : l.need ≤ l.room + 1; same : fit_after (reader_for l.kind) l.room 0 l.bytes ≡ fit_after (reader_for l.kind) l.room l.need l.rest }
 
-abbrev pub decreases-loop-at : goal.decreases-loop-at
-decreases-loop-at l = length l.bytes - l.at
+abbrev pub decreases-loop-rest : goal.decreases-loop-rest
+decreases-loop-rest l = length l.rest

@@ -6,14 +6,11 @@ use lib.Dec.{lit<, lit≤}
 use lib.IntN.{◌-ℤ◌}
 use mir.Syntax.{w16, w32}
 use mir.Facts.{to_z-of_z}
-use Rattle.wrap.proofs.Integers.{abs_fits, abs_sub, fits_abs, reread, returned, widen_back, widen_fits}
+use Rattle.wrap.proofs.Integers.{abs_fits, abs_sub, fits_abs, reread, returned, widen_back}
 use Rattle.lms.proofs.Bounds.{predicted_small}
 use Rattle.lms.specs.Predictor.{predicted}
 use Rattle.trial.proofs.residual.Goals as goal
 use Rattle.trial.proofs.residual.Goals.{After-predict}
-
-pub overflow_cast-result : goal.overflow_cast-result
-overflow_cast-result c = widen_fits w32 c.ranges.sample (lit≤ tt)
 
 difference : (c : After-predict) → reread w32 (reread w16 c.args.sample) -ℤ reread w32 c.predict.result ≡ c.args.sample -ℤ predicted c.args.lms
 difference c = rw (widen_back w32 c.ranges.sample (lit≤ tt), returned w32 c.predict.result c.predict.type_inv c.predict.ensures)

@@ -1,35 +1,26 @@
 -- `whole::need_after` meets its contract. Assumes nothing.
 use Prim.Native.Nat.{ℕ}
-use mathlib.Core.Path.{◌≡◌, sym, ap, ◌∙◌}
+use mathlib.Core.Path.{sym, ap, ◌∙◌}
 use native.Mathlib.Omega.{arith}
 use lib.ListN.{length-drop}
+use Rattle.std.proofs.lemmas.List.{take_rest}
 use Rattle.refusal.specs.Rules.{Answer, ◌then◌}
-use Rattle.refusal.specs.Refusals.{told_count}
+use Rattle.refusal.proofs.Told.{exit_told}
 use Rattle.whole.specs.Told.{summary_in}
-use Rattle.survey.specs.Parts.{audio_after}
-use Rattle.refusal.specs.declared.CountAnswer.{CountAnswer}
 use Rattle.whole.proofs.Surveying.{no_frame, summary, surveyed}
 use Rattle.whole.proofs.need_after.Goals as goal
-use Rattle.whole.proofs.need_after.Goals.{After-walk_frames}
+
+pub returns-then-frames-lt-QOA_HEADER_SIZE : goal.returns-then-frames-lt-QOA_HEADER_SIZE
+returns-then-frames-lt-QOA_HEADER_SIZE c = sym (ap summary_in (no_frame c.args.bytes.now c.args.fixed (omega (arith, length-drop 8 c.args.bytes.now))))
 
 -- the walk's answer, with the first frame's channels and rate
-counted : (c : After-walk_frames)
-    → summary_in (audio_after c.args.fixed c.args.bytes.now)
-    ≡ (told_count c.walk_frames.result then summary c.read_header-h.result.channels c.read_header-h.result.rate)
-counted c =
-    let args = c.args in
-    let h = c.read_header-h.result in
-    surveyed args.fixed args.bytes.now h (sym c.read_header-h.ensures) (omega arith) (omega arith)
-    ∙ ap (λ (a : Answer ℕ). a then summary h.channels h.rate) (sym c.walk_frames.ensures)
+pub returns-in_err-count : goal.returns-in_err-count
+returns-in_err-count c =
+    exit_told _ _ c.from_residual.ensures.1
+    ∙ ap (λ (a : Answer ℕ). a then summary c.read_header-h.result.channels c.read_header-h.result.rate) (rw take_rest at c.in_err-count.ensures)
+    ∙ sym (surveyed _ _ _ (sym (rw take_rest at c.read_header-h.ensures)) (omega arith) (omega (arith, length-drop 8 c.args.bytes.now)))
 
-pub returns-then-bytes-lt-QOA_HEADER_SIZE : goal.returns-then-bytes-lt-QOA_HEADER_SIZE
-returns-then-bytes-lt-QOA_HEADER_SIZE c =
-    let args = c.args in
-    let b = args.bytes.now in
-    sym (ap summary_in (no_frame b args.fixed (omega (arith, length-drop 8 b))))
-
-pub returns-in-Refused : goal.returns-in-Refused
-returns-in-Refused c = sym (counted (goal.at.returns-in-Refused c).After-walk_frames ∙ ap (λ (a : CountAnswer). told_count a then summary c.read_header-h.result.channels c.read_header-h.result.rate) c.in-Refused.is)
-
-pub returns-in-Count : goal.returns-in-Count
-returns-in-Count c = sym (counted (goal.at.returns-in-Count c).After-walk_frames ∙ ap (λ (a : CountAnswer). told_count a then summary c.read_header-h.result.channels c.read_header-h.result.rate) c.in-Count.is)
+pub returns : goal.returns
+returns c =
+    ap (λ (a : Answer ℕ). a then summary c.read_header-h.result.channels c.read_header-h.result.rate) (rw take_rest at c.in_ok-count.ensures)
+    ∙ sym (surveyed _ _ _ (sym (rw take_rest at c.read_header-h.ensures)) (omega arith) (omega (arith, length-drop 8 c.args.bytes.now)))

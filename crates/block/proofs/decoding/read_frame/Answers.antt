@@ -5,4 +5,4 @@ use Rattle.block.proofs.decoding.read_frame.Goals as goal
 
 pub returns : goal.returns
 unfolding frame_in
-returns c = λ j. record { channels = get_or c.args.block.now 18 0; rate = c.read_u32.ensures j; samples = c.read_u16.ensures j }
+returns c = λ j. record { channels = get_or c.args.block.now 18 0; rate = c.read_be.ensures j; samples = c.read_be-2.ensures j }

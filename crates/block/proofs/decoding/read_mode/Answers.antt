@@ -9,4 +9,4 @@ returns-then-block-eq0 c = rw (eq-eqb _ _ c.if-block-eq0.true)
 
 pub returns : goal.returns
 unfolding mode_in
-returns c = rw (ne_eqb _ _ c.if-block-eq0.false, c.read_u32.ensures, c.read_u32-2.ensures)
+returns c = rw (ne_eqb _ _ c.if-block-eq0.false, c.read_be.ensures, c.read_be-2.ensures)

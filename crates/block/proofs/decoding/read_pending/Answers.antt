@@ -17,30 +17,6 @@ loop-i-init c =
     let none : c.args.next - c.args.next ≡ 0 = omega arith in
     (omega arith, omega arith, rw none)
 
-pub overflow_mul-i : goal.overflow_mul-i
-overflow_mul-i c = omega arith
-
-pub overflow_add-i : goal.overflow_add-i
-overflow_add-i c = omega arith
-
-pub read_u16-requires : goal.read_u16-requires
-read_u16-requires c = omega arith
-
-pub signed16-requires : goal.signed16-requires
-signed16-requires c = tt
-
-pub offset_bounds-pending-i : goal.offset_bounds-pending-i
-offset_bounds-pending-i c = omega arith
-
-pub bounds-pending-i : goal.bounds-pending-i
-bounds-pending-i c = omega arith
-
-pub overflow_step-i : goal.overflow_step-i
-overflow_step-i c = omega arith
-
-pub loop-i-smaller : goal.loop-i-smaller
-loop-i-smaller c = omega arith
-
 pub loop-i-preserved : goal.loop-i-preserved
 unfolding written
 loop-i-preserved c =
@@ -48,7 +24,7 @@ loop-i-preserved c =
     let args = c.args in
     let grows : l.i + 1 - args.next ≡ suc (l.i - args.next) = omega arith in
     let here : args.next + (l.i - args.next) ≡ l.i = omega arith in
-    (omega arith, omega arith, rw (grows, mul-one, here, l.invariant.2, returned w16 c.signed16.result c.signed16.type_inv c.signed16.ensures, c.read_u16.ensures))
+    (omega arith, omega arith, rw (grows, mul-one, here, l.invariant.2, returned w16 c.signed.result c.signed.type_inv c.signed.ensures, c.read_be.ensures))
 
 pub returns : goal.returns
 returns c =

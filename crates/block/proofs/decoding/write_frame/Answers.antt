@@ -5,4 +5,4 @@ use Rattle.block.proofs.decoding.write_frame.Goals as goal
 
 pub returns : goal.returns
 returns c =
-    rw (c.write_u16.ensures, c.write_u32.ensures, c.write_be.ensures) (frame_over c.args.block.now c.args.frame (omega arith))
+    rw (c.write_be-3.ensures, c.write_be-2.ensures, c.write_be.ensures) (frame_over c.args.block.now c.args.frame (omega arith))

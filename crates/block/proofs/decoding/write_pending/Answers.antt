@@ -3,65 +3,42 @@ use mathlib.Core.Path.{◌≡◌, refl, sym, ap, ◌∙◌}
 use Prim.Native.Nat.{◌+◌, ◌*◌}
 use native.Mathlib.Numerals.{add-one}
 use native.Mathlib.Omega.{arith}
-use lib.ListN.{length}
+use lib.IntN.{ℤ, pos}
+use lib.ListN.{get_or, length}
+use mathlib.Core.Bool.{cond}
+use Rattle.block.proofs.Holding.{held_below, held_from, sample_held}
+use mir.Facts.{to_z-of_z}
 use mir.Syntax.{w16}
+use mir.Val.{SFits}
+use Rattle.wrap.proofs.Elements.{element}
 use Rattle.wrap.specs.Wrap.{low16}
 use Rattle.wrap.proofs.Integers.{returned}
 use Rattle.word.proofs.BytesLaws.{length_bytes}
-use Rattle.format.specs.Format.{max_channels, pending_len}
+use Rattle.format.specs.Format.{max_channels}
 use Rattle.body.specs.Laid.{laid}
 use Rattle.body.proofs.Laids.{length_blocks, next_block}
 use Rattle.refusal.proofs.Lents.{over_nil, over_put}
 use Rattle.block.proofs.decoding.write_pending.Invariants.{stored}
 use Rattle.block.proofs.decoding.write_pending.Goals as goal
-use Rattle.block.proofs.decoding.write_pending.Goals.{At-loop-i}
+use Rattle.block.proofs.decoding.write_pending.Goals.{At-loop-i, then-next-i, else-next-i}
 
 -- as long as it was
 long : (c : At-loop-i) → length c.loop-i.block ≡ length c.args.block.now
 long c =
     let args = c.args in
-    rw c.loop-i.invariant.1 (length_blocks 2 (stored args.pending.now args.next args.end) (λ k. length_bytes 2 _) args.block.now (32 + 32 * max_channels) c.loop-i.i (omega arith))
+    rw c.loop-i.invariant (length_blocks 2 (stored args.pending.now args.next args.end) (λ k. length_bytes 2 _) args.block.now (32 + 32 * max_channels) c.loop-i.i (omega arith))
 
 pub loop-i-init : goal.loop-i-init
 unfolding laid
-loop-i-init c = (omega arith, sym (over_nil _ _))
-
-pub held_sample-sample-requires : goal.held_sample-sample-requires
-held_sample-sample-requires c = omega arith
-
-pub overflow_mul-i : goal.overflow_mul-i
-overflow_mul-i c = omega arith
-
-pub overflow_add-i : goal.overflow_add-i
-overflow_add-i c = omega arith
-
-pub pattern16-requires : goal.pattern16-requires
-pattern16-requires c = tt
-
-pub write_u16-requires : goal.write_u16-requires
-write_u16-requires c = omega (arith, long (goal.at.write_u16-requires c).At-loop-i)
-
-pub overflow_step-i : goal.overflow_step-i
-overflow_step-i c = omega arith
-
-pub loop-i-smaller : goal.loop-i-smaller
-loop-i-smaller c = omega arith
+loop-i-init c = sym (over_nil _ _)
 
 pub loop-i-preserved : goal.loop-i-preserved
 loop-i-preserved c =
     let args = c.args in
-    let held = c.held_sample-sample in
-    let i = c.loop-i.i in (
-      omega arith,
-      rw (c.write_u16.ensures, c.pattern16.ensures ∙ ap low16 (returned w16 held.result held.type_inv held.ensures), add-one, over_put c.loop-i.block (32 + 32 * max_channels + 2 * i) 2 _ (omega (arith, long (goal.at.loop-i-preserved c).At-loop-i)), c.loop-i.invariant.1)
-          (next_block 2 (stored args.pending.now args.next args.end) (λ k. length_bytes 2 _) args.block.now (32 + 32 * max_channels) i (32 + 32 * max_channels + 2 * i) refl (omega arith)),
-    )
-
-pub shape_of-block : goal.shape_of-block
-shape_of-block c = long (goal.at.shape_of-block c).At-loop-i
-
-pub returns : goal.returns
-returns c =
-    let l = c.loop-i in
-    let done : l.i ≡ pending_len = omega arith in
-    rw done at l.invariant.1
+    let i = c.loop-i.i in
+    let item : ℤ = get_or args.pending.now i (pos 0) in
+    let same : cond c.if-next-i.held item (pos 0) ≡ sample_held args.pending.now args.next args.end i = elim c.if-next-i.branch [ then-next-i w ↦ held_from item args.next args.end i c.if-next-i.held w.if-next-i.true w.held-is | else-next-i w ↦ held_below item args.next args.end i c.if-next-i.held w.if-next-i.false w.held-is ] in
+    let fits : SFits w16 item = search element in
+    let now : c.held-pending.result ≡ sample_held args.pending.now args.next args.end i = c.held-pending.ensures ∙ rw (to_z-of_z fits) same in
+    rw (c.write_be.ensures, c.pattern.ensures ∙ ap low16 (returned w16 c.held-pending.result c.held-pending.type_inv now), add-one, over_put c.loop-i.block (32 + 32 * max_channels + 2 * i) 2 _ (omega (arith, long (goal.at.loop-i-preserved c).At-loop-i)), c.loop-i.invariant)
+    (next_block 2 (stored args.pending.now args.next args.end) (λ k. length_bytes 2 _) args.block.now (32 + 32 * max_channels) i (32 + 32 * max_channels + 2 * i) refl (omega arith))

@@ -5,8 +5,8 @@ use Rattle.wrap.specs.Wrap.{low16}
 use lib.IntN.{ℤ}
 use mathlib.Core.List.{List}
 use mathlib.Core.Path.{◌≡◌}
-use Prim.Native.Nat.{◌+◌, ◌*◌, ◌-◌, ◌≤◌, ℕ}
-use Rattle.format.specs.Format.{max_channels, pending_len}
+use Prim.Native.Nat.{◌+◌, ◌*◌, ℕ}
+use Rattle.format.specs.Format.{max_channels}
 use Rattle.body.specs.Laid.{laid}
 use Rattle.refusal.specs.Rules.{good}
 use Rattle.refusal.specs.Lent.{laid_over}
@@ -17,7 +17,4 @@ abbrev pub stored : List ℤ → ℕ → ℕ → ℕ → List ℕ
 stored pending next end k = bytes_of 2 (low16 (sample_held pending next end k))
 
 abbrev pub invariant-loop-i : goal.invariant-loop-i
-invariant-loop-i l = (l.i ≤ pending_len) × (l.block ≡ laid_over l.initial.block (32 + 32 * max_channels) (good (laid l.i (stored l.pending l.next l.end))))
-
-abbrev pub decreases-loop-i : goal.decreases-loop-i
-decreases-loop-i l = pending_len - l.i
+invariant-loop-i l = l.block ≡ laid_over l.initial.block (32 + 32 * max_channels) (good (laid l.i (stored l.pending l.next l.end)))

@@ -6,4 +6,4 @@ use Rattle.block.proofs.encoding.write_encoder.Goals as goal
 pub returns : goal.returns
 unfolding encoder_view
 returns c =
-    rw (c.write_predictors.ensures, c.write_u32-2.ensures, c.write_u32.ensures, c.write_be.ensures) (encoder_over c.args.block.now (encoder_view c.args.e) c.requires)
+    rw (c.write_predictors.ensures, c.write_be-3.ensures, c.write_be-2.ensures, c.write_be.ensures) (encoder_over c.args.block.now (encoder_view c.args.e) c.requires)

@@ -21,51 +21,22 @@ use Rattle.block.proofs.kept_predictors.write_predictors.Goals.{At-loop-j}
 long : (c : At-loop-j) → length c.loop-j.block ≡ length c.args.block.now
 long c =
     let args = c.args in
-    rw c.loop-j.invariant.1 (length_blocks 32 (stored args.states args.channels) (λ k. length_predictor (lms_of (table args.channels (lms_of args.states)) k)) args.block.now args.at c.loop-j.j (omega arith))
+    rw c.loop-j.invariant (length_blocks 32 (stored args.states args.channels) (λ k. length_predictor (lms_of (table args.channels (lms_of args.states)) k)) args.block.now args.at c.loop-j.j (omega arith))
 
 pub loop-j-init : goal.loop-j-init
 unfolding laid
-loop-j-init c = (omega arith, sym (over_nil _ _))
-
-pub offset_bounds-states-j : goal.offset_bounds-states-j
-offset_bounds-states-j c = omega arith
-
-pub bounds-states-j : goal.bounds-states-j
-bounds-states-j c = omega arith
-
-pub overflow_mul-j : goal.overflow_mul-j
-overflow_mul-j c = omega arith
-
-pub overflow_add-at : goal.overflow_add-at
-overflow_add-at c = omega arith
-
-pub held-requires : goal.held-requires
-held-requires c = tt
-
-pub write_predictor-requires : goal.write_predictor-requires
-write_predictor-requires c = omega (arith, long (goal.at.write_predictor-requires c).At-loop-j)
-
-pub overflow_step-j : goal.overflow_step-j
-overflow_step-j c = omega arith
-
-pub loop-j-smaller : goal.loop-j-smaller
-loop-j-smaller c = omega arith
+loop-j-init c = sym (over_nil _ _)
 
 pub loop-j-preserved : goal.loop-j-preserved
 loop-j-preserved c =
     let args = c.args in
-    let j = c.loop-j.j in (
-      omega arith,
-      rw (c.write_predictor.ensures, c.held.ensures, held_bytes args.states args.channels j, add-one, c.loop-j.invariant.1)
-          (next_block 32 (stored args.states args.channels) (λ k. length_predictor (lms_of (table args.channels (lms_of args.states)) k)) args.block.now args.at j (args.at + 32 * j) refl (omega arith)),
-    )
-
-pub shape_of-block : goal.shape_of-block
-shape_of-block c = long (goal.at.shape_of-block c).At-loop-j
+    let j = c.loop-j.j in
+    rw (c.write_predictor.ensures, c.held.ensures, held_bytes args.states args.channels j, add-one, c.loop-j.invariant)
+    (next_block 32 (stored args.states args.channels) (λ k. length_predictor (lms_of (table args.channels (lms_of args.states)) k)) args.block.now args.at j (args.at + 32 * j) refl (omega arith))
 
 pub returns : goal.returns
 unfolding predictors_bytes
 returns c =
     let l = c.loop-j in
     let done : l.j ≡ max_channels = omega arith in
-    rw done at l.invariant.1
+    rw done at l.invariant

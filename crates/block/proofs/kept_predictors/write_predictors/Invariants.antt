@@ -5,8 +5,7 @@ use Rattle.lms.specs.declared.QoaLms.{QoaLms}
 use Rattle.word.specs.Table.{table}
 use mathlib.Core.List.{List}
 use mathlib.Core.Path.{◌≡◌}
-use Prim.Native.Nat.{◌-◌, ◌≤◌, ℕ}
-use Rattle.format.specs.Format.{max_channels}
+use Prim.Native.Nat.{ℕ}
 use Rattle.body.specs.Laid.{laid}
 use Rattle.refusal.specs.Rules.{good}
 use Rattle.refusal.specs.Lent.{laid_over}
@@ -17,7 +16,4 @@ abbrev pub stored : List QoaLms → ℕ → ℕ → List ℕ
 stored states channels k = predictor_bytes (lms_of (table channels (lms_of states)) k)
 
 abbrev pub invariant-loop-j : goal.invariant-loop-j
-invariant-loop-j l = (l.j ≤ max_channels) × (l.block ≡ laid_over l.initial.block l.at (good (laid l.j (stored l.states l.channels))))
-
-abbrev pub decreases-loop-j : goal.decreases-loop-j
-decreases-loop-j l = max_channels - l.j
+invariant-loop-j l = l.block ≡ laid_over l.initial.block l.at (good (laid l.j (stored l.lms-items l.channels)))

@@ -1,4 +1,5 @@
 -- `decoder::items::frame_item` meets its contract. Assumes nothing.
+use borrow.Author.Rules.{rules}
 use mathlib.Core.Path.{◌≡◌, refl, ap, sym, ◌∙◌}
 use Rattle.refusal.specs.declared.Refusal.TheVariants.{Truncated}
 use Rattle.format.specs.Grammar.{tail_ok}
@@ -7,9 +8,9 @@ use Rattle.state.specs.View.{view}
 use Rattle.decoder.specs.Items.{settled}
 use Rattle.frames.specs.Frames.{frame_read}
 use Rattle.frames.specs.Parts.{EnterDone}
-use Rattle.frames.specs.declared.FrameAnswer.TheVariants.{End, Refused}
+use Rattle.std.specs.Prelude.{None, Ok, Err}
 use Rattle.frames.proofs.FrameLaws.{enter_end, enter_tail}
-use Rattle.decoder.proofs.ItemLaws.{item_from, next_turn}
+use Rattle.decoder.proofs.ItemLaws.{next_turn}
 use Rattle.decoder.proofs.items.frame_item.Goals as goal
 use Rattle.decoder.proofs.items.frame_item.Goals.{After-enter_frame-entered, After-tail_ok}
 
@@ -24,15 +25,15 @@ unfolding view
 returns-then-not-tail_ok c =
     let tail = (goal.at.returns-then-not-tail_ok c).After-tail_ok in
     let args = c.args in
-    next_turn args.bytes.now args.d (record { answer = Refused Truncated; state = c.refused_item.result.state }) _ (sym c.refused_item.ensures.0)
-    (enter_tail args.bytes.now args.d (settled (view args.d)) _ c.if-left-lt-QOA_HEADER_SIZE.true (sym (tail_is tail) ∙ c.if-not-tail_ok.true) refl c.refused_item.ensures.1)
+    next_turn args.bytes.now args.d (record { answer = Err Truncated; state = c.refused.result.state }) _ (sym c.refused.ensures.0)
+    (enter_tail args.bytes.now args.d (settled (view args.d)) _ c.if-left-lt-QOA_HEADER_SIZE.true (sym (tail_is tail) ∙ c.if-not-tail_ok.true) refl c.refused.ensures.1)
 
 pub returns-then-left-lt-QOA_HEADER_SIZE : goal.returns-then-left-lt-QOA_HEADER_SIZE
 unfolding view
 returns-then-left-lt-QOA_HEADER_SIZE c =
     let tail = (goal.at.returns-then-left-lt-QOA_HEADER_SIZE c).After-tail_ok in
     let args = c.args in
-    next_turn args.bytes.now args.d (record { answer = End; state = c.settle.result }) _ refl
+    next_turn args.bytes.now args.d (record { answer = Ok None; state = c.settle.result }) _ refl
     (enter_end args.bytes.now args.d (settled (view args.d)) _ c.if-left-lt-QOA_HEADER_SIZE.true (sym (tail_is tail) ∙ c.if-not-tail_ok.false) refl c.settle.ensures)
 
 -- what is found at the place
@@ -42,17 +43,7 @@ found : (c : After-enter_frame-entered) →
 unfolding view
 found c = c.enter_frame-entered.ensures (settled (view c.args.d)) refl refl
 
-pub returns-in-Frame : goal.returns-in-Frame
-returns-in-Frame c =
+pub returns : goal.returns
+returns c =
     let args = c.args in
-    next_turn args.bytes.now args.d c.enter_frame-entered.result _ (ap item_from c.in-Frame.is) (found (goal.at.returns-in-Frame c).After-enter_frame-entered)
-
-pub returns-in-End : goal.returns-in-End
-returns-in-End c =
-    let args = c.args in
-    next_turn args.bytes.now args.d c.enter_frame-entered.result _ (ap item_from c.in-End.is) (found (goal.at.returns-in-End c).After-enter_frame-entered)
-
-pub returns-in-Refused : goal.returns-in-Refused
-returns-in-Refused c =
-    let args = c.args in
-    next_turn args.bytes.now args.d c.enter_frame-entered.result _ (ap item_from c.in-Refused.is) (found (goal.at.returns-in-Refused c).After-enter_frame-entered)
+    next_turn args.bytes.now args.d c.enter_frame-entered.result _ (search rules) (found (goal.at.returns c).After-enter_frame-entered)

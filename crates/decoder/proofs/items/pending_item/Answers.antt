@@ -1,4 +1,5 @@
 -- `decoder::items::pending_item` meets its contract. Assumes nothing.
+use borrow.Author.Rules.{rules}
 use mathlib.Core.Path.{refl}
 use lib.IntN.{pos}
 use lib.ListN.{get_or}
@@ -11,4 +12,4 @@ pub returns : goal.returns
 returns c bs =
     let d = c.args.d in
     let sample = get_or d.pending d.next (pos 0) in
-    pending_turn bs d c.after_pending.result _ (returned w16 sample c.sample-1.given refl) c.requires.0 (c.after_pending.ensures bs)
+    pending_turn bs d c.after_pending.result _ (returned w16 sample (search rules) refl) c.requires.0 (c.after_pending.ensures bs)

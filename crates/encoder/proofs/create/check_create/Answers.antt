@@ -5,22 +5,23 @@ use Rattle.refusal.proofs.Rules.{fires, none_fires}
 use Rattle.word.proofs.Tests.{tests}
 use Rattle.encoder.specs.Encoder.{create_rules}
 use Rattle.encoder.proofs.create.check_create.Goals as goal
+use Rattle.encoder.proofs.create.check_create.Goals.{then-channels-eq0-via-then-channels-eq0, then-channels-eq0-via-else-channels-eq0+then-channels-gt-QOA_MAX_CHANNELS, then-rate-eq0-via-then-rate-eq0, then-rate-eq0-via-else-rate-eq0+then-rate-gt-QOA_MOST_RATE}
 
 pub returns-then-channels-eq0 : goal.returns-then-channels-eq0
 unfolding create_rules
-returns-then-channels-eq0 c = sym (fires 0 _ 11 (omega (arith, tests)))
-
-pub returns-then-channels-gt-QOA_MAX_CHANNELS : goal.returns-then-channels-gt-QOA_MAX_CHANNELS
-unfolding create_rules
-returns-then-channels-gt-QOA_MAX_CHANNELS c = sym (fires 1 _ 11 (omega (arith, tests)))
+returns-then-channels-eq0 c =
+    elim c.then-channels-eq0.branch [
+      | then-channels-eq0-via-then-channels-eq0 w ↦ sym (fires 0 _ 11 (omega (arith, tests)))
+      | then-channels-eq0-via-else-channels-eq0+then-channels-gt-QOA_MAX_CHANNELS w ↦ sym (fires 1 _ 11 (omega (arith, tests)))
+    ]
 
 pub returns-then-rate-eq0 : goal.returns-then-rate-eq0
 unfolding create_rules
-returns-then-rate-eq0 c = sym (fires 2 _ 12 (omega (arith, tests)))
-
-pub returns-then-rate-gt-QOA_MOST_RATE : goal.returns-then-rate-gt-QOA_MOST_RATE
-unfolding create_rules
-returns-then-rate-gt-QOA_MOST_RATE c = sym (fires 3 _ 12 (omega (arith, tests)))
+returns-then-rate-eq0 c =
+    elim c.then-rate-eq0.branch [
+      | then-rate-eq0-via-then-rate-eq0 w ↦ sym (fires 2 _ 12 (omega (arith, tests)))
+      | then-rate-eq0-via-else-rate-eq0+then-rate-gt-QOA_MOST_RATE w ↦ sym (fires 3 _ 12 (omega (arith, tests)))
+    ]
 
 pub returns-then-total-eq0 : goal.returns-then-total-eq0
 unfolding create_rules

@@ -15,6 +15,6 @@ pub returns : goal.returns
 unfolding encoder_view new_view
 returns c =
     let args = c.args in
-    rw c.new_lms-lms.ensures
+    rw c.new_lms.ensures
     (ap {B = EncoderView} (λ (l : List QoaLms). record { channels = args.channels; rate = args.rate; total = args.total; lms = l })
     (table_ext args.channels (lms_of (replicate max_channels new_lms)) (λ j. new_lms) (λ j h. get_or-replicate max_channels j new_lms no_lms (omega (arith, c.requires)))))

@@ -7,13 +7,13 @@ use lib.ListN.{length}
 use Rattle.format.specs.Format.{frame_length}
 use Rattle.encoder.specs.Encoder.{encoder_view}
 use Rattle.encoder.specs.Frame.{first_wide, encode_rules, per_channel}
-use Rattle.encoder.specs.Calls.{Told, wrote}
+use Rattle.encoder.specs.Calls.{Told, told_encode, wrote}
 use Rattle.encoder.specs.Parts.{FrameFits, told_wide}
 use Rattle.encoder.proofs.Done.{frame_done, frame_fits, frame_wide, good_left}
 use Rattle.encoder.proofs.Frames.{wide_view}
 use Rattle.encoder.proofs.GoodEncoders.{Good}
 use Rattle.encoder.proofs.frame.encode_checked.Goals as goal
-use Rattle.encoder.proofs.frame.encode_checked.Goals.{After-first_wide, In-Nowhere, Start}
+use Rattle.encoder.proofs.frame.encode_checked.Goals.{After-first_wide, In_default, Start}
 
 facts : (s : Start) → Good (encoder_view s.args.e)
 unfolding encode_rules
@@ -28,33 +28,33 @@ unfolding encoder_view
 first_wide-requires c = (facts (goal.at.first_wide-requires c).Start).few_channels
 
 -- there is none
-narrow : (c : In-Nowhere) → let e = c.args.e in first_wide (encoder_view e).channels (encoder_view e).lms ≡ none
-narrow c = sym (said (goal.at.In-Nowhere c).After-first_wide) ∙ ap told_wide c.in-Nowhere.is
+narrow : (c : In_default) → let e = c.args.e in first_wide (encoder_view e).channels (encoder_view e).lms ≡ none
+narrow c = sym (said (goal.at.In_default c).After-first_wide) ∙ ap told_wide c.in_default.is
 
-fits : (c : In-Nowhere) →
+fits : (c : In_default) →
     let args = c.args in
     FrameFits (encoder_view args.e) args.samples.now × (frame_length (encoder_view args.e).channels (per_channel (encoder_view args.e) args.samples.now) ≤ length args.out.now)
 fits c = frame_fits (encoder_view c.args.e) c.args.samples.now (length c.args.out.now) c.requires (narrow c)
 
-pub put_frame-state-requires : goal.put_frame-state-requires
+pub put_frame-requires : goal.put_frame-requires
 unfolding encoder_view
-put_frame-state-requires c = let f = fits (goal.at.put_frame-state-requires c).In-Nowhere in record { frame_fits = f.0; samples_in_bounds = omega (arith, f.1) }
+put_frame-requires c = let f = fits (goal.at.put_frame-requires c).In_default in record { frame_fits = f.0; samples_in_bounds = omega (arith, f.1) }
 
 pub nonzero_div-samples : goal.nonzero_div-samples
 unfolding encoder_view
-nonzero_div-samples c = (fits (goal.at.nonzero_div-samples c).In-Nowhere).0.some_channels
+nonzero_div-samples c = (fits (goal.at.nonzero_div-samples c).In_default).0.some_channels
 
-pub frame_length-count-requires : goal.frame_length-count-requires
+pub frame_length-requires : goal.frame_length-requires
 unfolding encoder_view
-frame_length-count-requires c = let f = (fits (goal.at.frame_length-count-requires c).In-Nowhere).0 in (omega (arith, f.few_channels), omega (arith, f.few_samples))
+frame_length-requires c = let f = (fits (goal.at.frame_length-requires c).In_default).0 in (omega (arith, f.few_channels), omega (arith, f.few_samples))
 
-pub returns-in-At : goal.returns-in-At
-returns-in-At c =
-    frame_wide _ _ _ _ _ _ c.requires (sym (said (goal.at.returns-in-At c).After-first_wide) ∙ ap told_wide c.in-At.is) refl refl refl
+pub returns-in-Some : goal.returns-in-Some
+returns-in-Some c =
+    frame_wide _ _ _ _ _ _ c.requires (sym (said (goal.at.returns-in-Some c).After-first_wide) ∙ ap told_wide c.in-Some.is) (ap told_encode c.refused.ensures.0) refl c.refused.ensures.1
 
-pub returns-in-Nowhere : goal.returns-in-Nowhere
+pub returns : goal.returns
 unfolding encoder_view
-returns-in-Nowhere c =
+returns c =
     let put = c.before.before.before in
     let told = put.before.before in
-    frame_done _ _ _ _ _ c.requires (narrow (goal.at.returns-in-Nowhere c).In-Nowhere) (ap {B = Told} wrote c.frame_length-count.ensures) c.put_frame-state.ensures.bytes c.put_frame-state.ensures.state
+    frame_done _ _ _ _ _ c.requires (narrow (goal.at.returns c).In_default) (ap {B = Told} wrote c.frame_length.ensures) c.put_frame.ensures.bytes c.put_frame.ensures.state

@@ -11,7 +11,7 @@ use Rattle.encoder.proofs.Frames.{after_of, frame_of, frame_most, frame_over, fr
 use Rattle.body.proofs.Laids.{length_states}
 use Rattle.refusal.proofs.Lents.{length_over}
 use Rattle.encoder.proofs.frame.put_frame.Goals as goal
-use Rattle.encoder.proofs.frame.put_frame.Goals.{After-put_states, After-write_u64, Start}
+use Rattle.encoder.proofs.frame.put_frame.Goals.{After-put_states, After-write_be, Start}
 
 -- what is required, over the state that the code holds
 fits : (c : Start) →
@@ -24,24 +24,21 @@ fits c =
     (f.some_channels, f.few_channels, f.rate_fits, f.whole, f.few_samples, c.requires.samples_in_bounds)
 
 -- the output is as long as it was
-long-header : (c : After-write_u64) → length c.write_u64.new.out ≡ length c.args.out.now
-long-header c = rw c.write_u64.ensures (length_put 8 _ _ _)
+long-header : (c : After-write_be) → length c.write_be.new.out ≡ length c.args.out.now
+long-header c = rw c.write_be.ensures (length_put 8 _ _ _)
 
 long-states : (c : After-put_states) → length c.put_states.new.out ≡ length c.args.out.now
 unfolding frame_length state_end
 long-states c =
     let written = c.before.before.before.before.before in
-    let same = long-header (goal.at.After-put_states c).After-write_u64 in
-    rw c.put_states.ensures (length_over c.write_u64.new.out (c.args.at + 8) _ (omega (arith, fits (goal.at.After-put_states c).Start, length_states c.args.e.channels (lms_of c.args.e.lms))) ∙ same)
+    let same = long-header (goal.at.After-put_states c).After-write_be in
+    rw c.put_states.ensures (length_over c.write_be.new.out (c.args.at + 8) _ (omega (arith, fits (goal.at.After-put_states c).Start, length_states c.args.e.channels (lms_of c.args.e.lms))) ∙ same)
 
 pub nonzero_div-n : goal.nonzero_div-n
 nonzero_div-n c = (fits (goal.at.nonzero_div-n c).Start).0
 
 pub overflow_cast-header : goal.overflow_cast-header
 overflow_cast-header c = omega (arith, fits (goal.at.overflow_cast-header c).Start)
-
-pub frame_length-requires : goal.frame_length-requires
-frame_length-requires c = omega (arith, fits (goal.at.frame_length-requires c).Start)
 
 pub overflow_cast-header-2 : goal.overflow_cast-header-2
 overflow_cast-header-2 c =
@@ -51,14 +48,14 @@ overflow_cast-header-2 c =
 pub header_word-requires : goal.header_word-requires
 header_word-requires c = omega (arith, fits (goal.at.header_word-requires c).Start)
 
-pub write_u64-requires : goal.write_u64-requires
+pub write_be-requires : goal.write_be-requires
 unfolding frame_length state_end
-write_u64-requires c = omega (arith, fits (goal.at.write_u64-requires c).Start)
+write_be-requires c = omega (arith, fits (goal.at.write_be-requires c).Start)
 
 pub put_states-requires : goal.put_states-requires
 unfolding frame_length state_end
 put_states-requires c =
-    omega (arith, fits (goal.at.put_states-requires c).Start, long-header (goal.at.put_states-requires c).After-write_u64)
+    omega (arith, fits (goal.at.put_states-requires c).Start, long-header (goal.at.put_states-requires c).After-write_be)
 
 pub overflow_add-at-2 : goal.overflow_add-at-2
 unfolding frame_length
@@ -82,6 +79,6 @@ returns c =
     let samples = c.args.samples.now in record {
       state = after_of e samples c.put_groups-next.result c.put_groups-next.ensures.states;
       bytes = c.put_groups-next.ensures.bytes
-          ∙ rw (c.state_end.ensures, c.put_states.ensures, c.write_u64.ensures, c.header_word.ensures, c.frame_length.ensures, frame_of e samples)
+          ∙ rw (c.state_end.ensures, c.put_states.ensures, c.write_be.ensures, c.header_word.ensures, c.frame_length.ensures, frame_of e samples)
           (frame_over c.args.out.now c.args.at _ (16 * e.channels) _ _ (omega (arith, length_states e.channels (lms_of e.lms))) (omega (arith, fits (goal.at.returns c).Start)));
     }

@@ -7,4 +7,4 @@ use Rattle.encoder.proofs.head.put_head.Goals as goal
 pub returns : goal.returns
 returns c =
     let put = c.before.before in
-    c.write_u64.ensures ∙ rw c.file_word.ensures (head_put c.args.total c.args.out.now (omega arith) c.requires)
+    c.write_be.ensures ∙ rw c.file_word.ensures (head_put c.args.total c.args.out.now (omega arith) c.requires)

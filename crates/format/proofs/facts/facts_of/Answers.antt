@@ -4,10 +4,10 @@ use lib.Ieee.{of_bits}
 use Rattle.format.specs.Facts.{facts_of}
 use Rattle.format.proofs.facts.facts_of.Goals as goal
 
-pub returns-then-total-eq0 : goal.returns-then-total-eq0
-unfolding facts_of of_bits
-returns-then-total-eq0 c = simp (eq-eqb _ _ c.if-total-eq0.true)
-
-pub returns : goal.returns
+pub returns-then-timed : goal.returns-then-timed
 unfolding facts_of
-returns c = simp (ne_eqb _ _ c.if-total-eq0.false)
+returns-then-timed c = simp (ne_eqb _ _ c.if-timed.true)
+
+pub returns-else-timed : goal.returns-else-timed
+unfolding facts_of of_bits
+returns-else-timed c = simp (eq-eqb _ _ c.if-timed.false)

@@ -1,4 +1,4 @@
--- `format::frame::check_header` meets its contract. The first rule of `header_rules` that fires, one return for each. Assumes nothing.
+-- `format::frame::check_header` meets its contract: the first rule of `header_rules` that fires. Assumes nothing.
 use mathlib.Core.Path.{◌≡◌, ap, sym}
 use Prim.Native.Nat.{ℕ, ◌-◌, ◌/◌, ◌%◌}
 use native.Mathlib.Omega.{arith}
@@ -7,7 +7,7 @@ use Rattle.word.proofs.Tests.{tests}
 use Rattle.format.specs.Header.{header_rules, size_slices}
 use Rattle.format.specs.declared.frame.FrameHeader.{FrameHeader}
 use Rattle.format.proofs.frame.check_header.Goals as goal
-use Rattle.format.proofs.frame.check_header.Goals.{After-state_end-state}
+use Rattle.format.proofs.frame.check_header.Goals.{After-state_end-state, then-c-eq0-via-then-c-eq0, then-c-eq0-via-else-c-eq0+then-h-eq0, then-c-eq0-via-else-c-eq0+else-h-eq0+then-size-state, then-k-c-ne0-via-then-k-c-ne0, then-k-c-ne0-via-else-k-c-ne0+then-k-c-gt-QOA_SLICES_PER_FRAME}
 
 abbrev header : After-state_end-state → FrameHeader
 header c = c.args.h
@@ -25,23 +25,21 @@ groups c =
 
 pub returns-then-c-eq0 : goal.returns-then-c-eq0
 unfolding header_rules
-returns-then-c-eq0 c = sym (fires 0 _ 3 (omega (arith, tests)))
-
-pub returns-then-h-eq0 : goal.returns-then-h-eq0
-unfolding header_rules
-returns-then-h-eq0 c = sym (fires 1 _ 3 (omega (arith, tests)))
-
-pub returns-then-size-state : goal.returns-then-size-state
-unfolding header_rules
-returns-then-size-state c = sym (fires 2 _ 3 (omega (arith, tests)))
+returns-then-c-eq0 c =
+    elim c.then-c-eq0.branch [
+      | then-c-eq0-via-then-c-eq0 w ↦ sym (fires 0 _ 3 (omega (arith, tests)))
+      | then-c-eq0-via-else-c-eq0+then-h-eq0 w ↦ sym (fires 1 _ 3 (omega (arith, tests)))
+      | then-c-eq0-via-else-c-eq0+else-h-eq0+then-size-state w ↦ sym (fires 2 _ 3 (omega (arith, tests)))
+    ]
 
 pub returns-then-k-c-ne0 : goal.returns-then-k-c-ne0
 unfolding header_rules
-returns-then-k-c-ne0 c = sym (fires 3 _ 3 (omega (arith, tests, groups (goal.at.returns-then-k-c-ne0 c).After-state_end-state)))
-
-pub returns-then-k-c-gt-QOA_SLICES_PER_FRAME : goal.returns-then-k-c-gt-QOA_SLICES_PER_FRAME
-unfolding header_rules
-returns-then-k-c-gt-QOA_SLICES_PER_FRAME c = sym (fires 4 _ 3 (omega (arith, tests, groups (goal.at.returns-then-k-c-gt-QOA_SLICES_PER_FRAME c).After-state_end-state)))
+returns-then-k-c-ne0 c =
+    let g = groups (goal.at.returns-then-k-c-ne0 c).After-state_end-state in
+    elim c.then-k-c-ne0.branch [
+      | then-k-c-ne0-via-then-k-c-ne0 w ↦ sym (fires 3 _ 3 (omega (arith, tests)))
+      | then-k-c-ne0-via-else-k-c-ne0+then-k-c-gt-QOA_SLICES_PER_FRAME w ↦ sym (fires 4 _ 3 (omega (arith, tests)))
+    ]
 
 pub returns-then-c-gt-QOA_MAX_CHANNELS : goal.returns-then-c-gt-QOA_MAX_CHANNELS
 unfolding header_rules

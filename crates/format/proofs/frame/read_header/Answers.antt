@@ -6,4 +6,4 @@ use Rattle.format.proofs.frame.read_header.Goals as goal
 
 pub returns : goal.returns
 returns c =
-    c.header_fields.ensures ∙ ap header_fields c.read_u64.ensures ∙ fields_of_bytes _ _ (λ i. (c.shared_slice_known-1.given i).fits)
+    c.header_fields.ensures ∙ ap header_fields c.read_be.ensures ∙ fields_of_bytes _ _ (λ i. (c.type_inv.bytes i).fits)

@@ -3,21 +3,15 @@ use mathlib.Core.Path.{ap, sym, ◌∙◌}
 use Prim.Native.Nat.{ℕ}
 use native.Mathlib.Omega.{arith}
 use Rattle.refusal.specs.Rules.{Answer, good}
-use Rattle.format.specs.Parts.{told_header}
+use Rattle.refusal.proofs.Told.{exit_told}
 use Rattle.format.proofs.Parts.{refused_part, cut_part, whole_part}
 use Rattle.format.proofs.part.part_length.Goals as goal
 
-pub returns-in-Refused : goal.returns-in-Refused
-returns-in-Refused c =
-    sym (refused_part _ _ _ (sym c.header_at.ensures ∙ ap told_header c.in-Refused.is))
+pub returns-in_err-h : goal.returns-in_err-h
+returns-in_err-h c = exit_told _ _ c.from_residual.ensures.1 ∙ sym (refused_part _ _ _ (sym c.in_err-h.ensures))
 
-pub returns-then-bytes_left-n : goal.returns-then-bytes_left-n
-returns-then-bytes_left-n c =
-    let h = c.before.before.before.before.before.before in
-    sym (cut_part _ _ c.in-Good.h (sym c.header_at.ensures ∙ ap told_header c.in-Good.is) (omega arith))
+pub returns-then-saturating_sub-n : goal.returns-then-saturating_sub-n
+returns-then-saturating_sub-n c = sym (cut_part _ _ c.in_ok-h.h (sym c.in_ok-h.ensures) (omega arith))
 
-pub returns-else-bytes_left-n : goal.returns-else-bytes_left-n
-returns-else-bytes_left-n c =
-    let h = c.before.before.before.before.before.before in
-    ap {B = Answer ℕ} good c.frame_length-n.ensures
-    ∙ sym (whole_part _ _ c.in-Good.h (sym c.header_at.ensures ∙ ap told_header c.in-Good.is) (omega arith))
+pub returns : goal.returns
+returns c = ap {B = Answer ℕ} good c.length-n.ensures ∙ sym (whole_part _ _ c.in_ok-h.h (sym c.in_ok-h.ensures) (omega arith))

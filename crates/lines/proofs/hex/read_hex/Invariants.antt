@@ -1,13 +1,9 @@
 -- `lines::hex::read_hex` meets its contract. Assumes nothing.
 use mathlib.Core.Path.{◌≡◌}
-use Prim.Native.Nat.{◌*◌, ◌≤◌, ◌-◌}
-use lib.ListN.{length}
+use Prim.Native.Nat.{◌*◌}
 use Rattle.word.specs.Parts.{written}
 use Rattle.lines.specs.Hex.{pair_at}
 use Rattle.lines.proofs.hex.read_hex.Given as goal
 
 abbrev pub invariant-loop-i : goal.invariant-loop-i
-invariant-loop-i l = (l.i ≤ l.i-end) × (l.i-end ≡ length l.initial.out) × (l.out ≡ written (λ k. pair_at l.text (k * 2)) l.initial.out 0 1 l.i)
-
-abbrev pub decreases-loop-i : goal.decreases-loop-i
-decreases-loop-i l = length l.initial.out - l.i
+invariant-loop-i l = l.out ≡ written (λ k. pair_at l.text (k * 2)) l.initial.out 0 1 l.i

@@ -7,14 +7,15 @@ use Rattle.refusal.proofs.Rules.{good_after, refused_at}
 use Rattle.word.proofs.Tests.{tests}
 use Rattle.oneshot.specs.OneShot.{need_rules}
 use Rattle.oneshot.proofs.need.encode_need.Goals as goal
+use Rattle.oneshot.proofs.need.encode_need.Goals.{then-channels-eq0-via-then-channels-eq0, then-channels-eq0-via-else-channels-eq0+then-channels-gt-QOA_MAX_CHANNELS}
 
 pub returns-then-channels-eq0 : goal.returns-then-channels-eq0
 unfolding need_rules
-returns-then-channels-eq0 c = sym (refused_at 0 _ 11 _ (omega (arith, tests)))
-
-pub returns-then-channels-gt-QOA_MAX_CHANNELS : goal.returns-then-channels-gt-QOA_MAX_CHANNELS
-unfolding need_rules
-returns-then-channels-gt-QOA_MAX_CHANNELS c = sym (refused_at 1 _ 11 _ (omega (arith, tests)))
+returns-then-channels-eq0 c =
+    elim c.then-channels-eq0.branch [
+      | then-channels-eq0-via-then-channels-eq0 w ↦ sym (refused_at 0 _ 11 _ (omega (arith, tests)))
+      | then-channels-eq0-via-else-channels-eq0+then-channels-gt-QOA_MAX_CHANNELS w ↦ sym (refused_at 1 _ 11 _ (omega (arith, tests)))
+    ]
 
 pub returns-then-total-eq0 : goal.returns-then-total-eq0
 unfolding need_rules

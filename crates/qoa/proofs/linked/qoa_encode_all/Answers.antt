@@ -1,12 +1,9 @@
 -- `qoa::linked::qoa_encode_all` meets its contract. Assumes nothing.
-use mathlib.Core.Path.{sym, subst, ap, ◌∙◌}
+use mathlib.Core.Path.{sym, subst}
 use native.Mathlib.Omega.{arith}
 use lib.ListN.{length}
-use mir.Syntax.{w64}
-use Rattle.wrap.proofs.Integers.{returned}
 use Rattle.encoder.specs.Calls.{Told}
 use Rattle.oneshot.specs.Parts.{Small}
-use Rattle.codes.specs.Codes.{coded_encode}
 use Rattle.qoa.proofs.Encoding.{encoded_small}
 use Rattle.qoa.proofs.linked.qoa_encode_all.Goals as goal
 
@@ -16,8 +13,3 @@ encoded-requires c =
     let args = c.args in
     subst (λ (t : Told). Small t) (sym c.encode_all.ensures.told)
     (encoded_small args.channels args.rate args.total args.samples.now (length args.out.now) (omega arith))
-
-pub returns : goal.returns
-returns c =
-    let done = c.encode_all in
-    record { answer = returned w64 c.encoded.result c.encoded.type_inv (c.encoded.ensures ∙ ap coded_encode done.ensures.told); bytes = done.ensures.memory }

@@ -1,12 +1,8 @@
--- `search::order::next_key` meets its contract. The invariant: `least` is the next of the first `f` keys.
+-- `search::order::next_key` meets its contract. The invariant: `least` is the next of the keys so far.
 -- Assumes nothing.
-use Prim.Native.Nat.{◌-◌, ◌≤◌}
 use mathlib.Core.Path.{◌≡◌}
 use Rattle.search.specs.Parts.{next_key}
 use Rattle.search.proofs.order.next_key.Given as goal
 
-abbrev pub invariant-loop-f : goal.invariant-loop-f
-invariant-loop-f l = (l.f ≤ 16) × (l.least ≡ next_key l.keys l.from l.f)
-
-abbrev pub decreases-loop-f : goal.decreases-loop-f
-decreases-loop-f l = 16 - l.f
+abbrev pub invariant-loop-key : goal.invariant-loop-key
+invariant-loop-key l = l.least ≡ next_key l.keys l.from l.key-index

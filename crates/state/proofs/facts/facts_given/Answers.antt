@@ -1,5 +1,4 @@
 -- `state::facts::facts_given` meets its contract. Assumes nothing.
-use borrow.Author.Tests.{not-false, not-true}
 use mathlib.Core.Path.{◌≡◌, ap, sym, ◌∙◌}
 use mathlib.Core.Bool.{true}
 use lib.ListN.{length}
@@ -15,10 +14,10 @@ use Rattle.state.proofs.facts.facts_given.Goals.{Else-not-is_good}
 
 -- past the state rules
 known : (c : Else-not-is_good) → good_state (view c.args.d) (length c.args.bytes.now) ≡ true
-known c = sym c.is_good.ensures ∙ not-false _ c.if-not-is_good.false-raw
+known c = sym c.is_good.ensures ∙ c.if-not-is_good.false
 
 pub returns-then-not-is_good : goal.returns-then-not-is_good
-returns-then-not-is_good c = sym (facts_refused _ _ (sym c.is_good.ensures ∙ not-true _ c.if-not-is_good.true-raw))
+returns-then-not-is_good c = sym (facts_refused _ _ (sym c.is_good.ensures ∙ c.if-not-is_good.true))
 
 pub returns-in-Streaming : goal.returns-in-Streaming
 unfolding facts_for view

@@ -6,4 +6,4 @@ use Rattle.state.proofs.opening.stream_state.Goals as goal
 
 pub returns : goal.returns
 unfolding view opened_stream zero_state table
-returns c = rw c.zero_state-state.ensures
+returns c = rw c.zero_state.ensures

@@ -1,67 +1,72 @@
--- `state::rules::is_good` meets its contract: each `return` rewrites with what the calls before it said. Assumes nothing.
-use borrow.Author.Tests.{le-leb, leb-true, lt-leb, not-false, not-true}
-use mathlib.Core.Path.{◌≡◌, sym, ◌∙◌}
+-- `state::rules::is_good` meets its contract: what is joined at each `&&`. Assumes nothing.
+use borrow.Author.Tests.{le-leb, leb-true, lt-leb}
+use mathlib.Core.Path.{◌≡◌, refl, ap, sym, ◌∙◌}
 use mathlib.Core.Bool.{Bool, true, false, ◌&&◌}
-use Prim.Native.Nat.{◌*◌}
+use Prim.Native.Nat.{ℕ, ◌*◌, ◌≤◌}
+use native.Mathlib.Omega.{arith}
+use lib.ListN.{length}
 use lib.Dec.{leb}
 use Rattle.format.specs.Format.{max_channels}
-use Rattle.state.specs.States.{mode_rule, some_channels}
+use Rattle.state.specs.States.{lms_rule, mode_rule, some_channels, weight_bound}
 use Rattle.state.specs.declared.QoaDecoder.{QoaDecoder}
-use Rattle.word.proofs.Belows.{and_left}
+use Rattle.word.proofs.Belows.{and_left, and_right}
+use Rattle.state.proofs.Alls.{used_rule}
 use Rattle.state.proofs.GoodStates.{good_view}
 use Rattle.state.proofs.rules.is_good.Goals as goal
-use Rattle.state.proofs.rules.is_good.Goals.{Else-bytes-d, Else-not-is_good_frame, Else-not-is_good_mode, Else-not-is_good_range, Then-not-is_good_frame}
-
--- the state at each place, and what is known of it there
-abbrev d2 : Else-not-is_good_mode → QoaDecoder
-d2 c = c.args.d
-
-abbrev d3 : Else-not-is_good_frame → QoaDecoder
-d3 c = d2 c.before.before.before
-
-abbrev d4 : Else-not-is_good_range → QoaDecoder
-d4 c = d3 c.before.before
-
-place-good : (c : Else-bytes-d) → leb c.args.d.at c.args.bytes ≡ true
-place-good c = le-leb _ _ c.if-bytes-d.false
-
-mode_good : (c : Else-not-is_good_mode) → mode_rule (d2 c).mode ≡ true
-mode_good c = sym c.is_good_mode.ensures ∙ not-false _ c.if-not-is_good_mode.false-raw
+use Rattle.state.proofs.rules.is_good.Goals.{Joined-d-bytes, Joined-is_good_mode, Joined-is_good_frame, then-d-bytes, else-d-bytes, then-is_good_mode, else-is_good_mode, then-is_good_frame, else-is_good_frame}
 
 abbrev frameRule : QoaDecoder → Bool
 frameRule d = leb d.frame.channels max_channels && (some_channels d.frame.channels d.remaining && leb d.remaining d.frame.samples)
 
-frame-good : (c : Else-not-is_good_frame) → frameRule (d3 c) ≡ true
-frame-good c = sym c.is_good_frame.ensures ∙ not-false _ c.if-not-is_good_frame.false-raw
+abbrev rangeRule : QoaDecoder → Bool
+rangeRule d = leb d.next d.end && leb d.end (20 * d.frame.channels)
 
-frame-bad : (c : Then-not-is_good_frame) → frameRule (d2 c.before.before.before) ≡ false
-frame-bad c = sym c.is_good_frame.ensures ∙ not-true _ c.if-not-is_good_frame.true-raw
+place_mode : (c : Joined-d-bytes) → c.if-d-bytes.value ≡ (leb c.args.d.at c.args.bytes && mode_rule c.args.d.mode)
+place_mode c =
+    elim c.if-d-bytes.branch [
+      | then-d-bytes w ↦ rw (le-leb c.args.d.at c.args.bytes w.if-d-bytes.true) (w.value-is ∙ w.is_good_mode.ensures)
+      | else-d-bytes w ↦ let past = lt-leb c.args.d.at c.args.bytes w.if-d-bytes.false in rw past (w.value-is ∙ past)
+    ]
 
-range-good : (c : Else-not-is_good_range) → (leb (d4 c).next (d4 c).end && leb (d4 c).end (20 * (d4 c).frame.channels)) ≡ true
-range-good c = sym c.is_good_range.ensures ∙ not-false _ c.if-not-is_good_range.false-raw
+and_frame : (c : Joined-is_good_mode) → c.if-is_good_mode.value ≡ ((leb c.args.d.at c.args.bytes && mode_rule c.args.d.mode) && frameRule c.args.d)
+and_frame c =
+    let before = place_mode (goal.at.Joined-is_good_mode c).Joined-d-bytes in
+    elim c.if-is_good_mode.branch [
+      | then-is_good_mode w ↦ rw (sym before ∙ w.if-is_good_mode.true) (w.value-is ∙ w.is_good_frame.ensures)
+      | else-is_good_mode w ↦ rw (sym before ∙ w.if-is_good_mode.false) (w.value-is ∙ w.if-is_good_mode.false)
+    ]
 
-pub returns-then-bytes-d : goal.returns-then-bytes-d
-returns-then-bytes-d c = sym (good_view _ _ ∙ rw (lt-leb _ _ c.if-bytes-d.true))
+and_range : (c : Joined-is_good_frame) → c.if-is_good_frame.value ≡ (((leb c.args.d.at c.args.bytes && mode_rule c.args.d.mode) && frameRule c.args.d) && rangeRule c.args.d)
+and_range c =
+    let before = and_frame (goal.at.Joined-is_good_frame c).Joined-is_good_mode in
+    elim c.if-is_good_frame.branch [
+      | then-is_good_frame w ↦ rw (sym before ∙ w.if-is_good_frame.true) (w.value-is ∙ w.is_good_range.ensures)
+      | else-is_good_frame w ↦ rw (sym before ∙ w.if-is_good_frame.false) (w.value-is ∙ w.if-is_good_frame.false)
+    ]
 
-pub returns-then-not-is_good_mode : goal.returns-then-not-is_good_mode
-returns-then-not-is_good_mode c = sym (good_view _ _ ∙ rw (place-good (goal.at.returns-then-not-is_good_mode c).Else-bytes-d, sym c.is_good_mode.ensures ∙ not-true _ c.if-not-is_good_mode.true-raw))
+-- the rules in the code's order, as it joins them
+joined : (a b c d e : Bool) → (a && (b && (c && (d && e)))) ≡ ((((a && b) && c) && d) && e)
+joined false b c d e = refl
+joined true false c d e = refl
+joined true true false d e = refl
+joined true true true d e = refl
 
-pub returns-then-not-is_good_frame : goal.returns-then-not-is_good_frame
-returns-then-not-is_good_frame c =
-    sym (good_view _ _ ∙ rw (place-good (goal.at.returns-then-not-is_good_frame c).Else-bytes-d, mode_good (goal.at.returns-then-not-is_good_frame c).Else-not-is_good_mode, frame-bad c))
-
-pub returns-then-not-is_good_range : goal.returns-then-not-is_good_range
-returns-then-not-is_good_range c =
-    let third = c.before.before in
-    sym (good_view _ _ ∙ rw (place-good (goal.at.returns-then-not-is_good_range c).Else-bytes-d, mode_good (goal.at.returns-then-not-is_good_range c).Else-not-is_good_mode, frame-good (goal.at.returns-then-not-is_good_range c).Else-not-is_good_frame, sym c.is_good_range.ensures ∙ not-true _ c.if-not-is_good_range.true-raw))
-
-pub are_good_states-requires : goal.are_good_states-requires
-are_good_states-requires c = leb-true _ _ (and_left _ _ (frame-good (goal.at.are_good_states-requires c).Else-not-is_good_frame))
-
-pub returns : goal.returns
-returns c =
-    let bound = c.before in
-    let fourth = bound.before.before.before in
-    let third = fourth.before.before in
+pub returns-then-is_good_range : goal.returns-then-is_good_range
+returns-then-is_good_range c =
+    let d = c.args.d in
+    let j = (goal.at.returns-then-is_good_range c).Joined-is_good_frame in
+    let passed = sym (and_range j) ∙ c.if-is_good_range.true in
+    let frame-good = and_right (leb d.at c.args.bytes && mode_rule d.mode) (frameRule d) (and_left _ (rangeRule d) passed) in
+    let few = leb-true d.frame.channels max_channels (and_left _ _ frame-good) in
+    let room : d.frame.channels ≤ length d.lms = omega (arith, few) in
     c.are_good_states.ensures
-    ∙ sym (good_view _ _ ∙ rw (place-good (goal.at.returns c).Else-bytes-d, mode_good (goal.at.returns c).Else-not-is_good_mode, frame-good (goal.at.returns c).Else-not-is_good_frame, range-good (goal.at.returns c).Else-not-is_good_range, ← c.weight_bound.ensures))
+    ∙ used_rule d.frame.channels c.weight_bound.result d.lms room
+    ∙ ap (λ (b : ℕ). lms_rule d.frame.channels b d.lms) c.weight_bound.ensures
+    ∙ sym (good_view d c.args.bytes ∙ joined (leb d.at c.args.bytes) (mode_rule d.mode) (frameRule d) (rangeRule d) (lms_rule d.frame.channels (weight_bound d.remaining) d.lms) ∙ rw passed)
+
+pub returns-else-is_good_range : goal.returns-else-is_good_range
+returns-else-is_good_range c =
+    let d = c.args.d in
+    let j = (goal.at.returns-else-is_good_range c).Joined-is_good_frame in
+    let failed = sym (and_range j) ∙ c.if-is_good_range.false in
+    c.if-is_good_range.false ∙ sym (good_view d c.args.bytes ∙ joined (leb d.at c.args.bytes) (mode_rule d.mode) (frameRule d) (rangeRule d) (lms_rule d.frame.channels (weight_bound d.remaining) d.lms) ∙ rw failed)
