@@ -13,9 +13,9 @@ use format::frame::{QOA_MAX_CHANNELS, QOA_MOST_RATE};
 use lms::{QoaLms, are_short};
 
 // The histories of the used channels are in 16 bits. kept: the states with the number of channels, as the contract's `below` takes them.
-fn are_good_histories(states: [QoaLms; QOA_MAX_CHANNELS], channels: usize) -> bool
+fn are_good_histories(states: &[QoaLms; QOA_MAX_CHANNELS], channels: usize) -> bool
     requires { channels ≤ max_channels }
-    ensures { result ≡ below channels (λ j. history_rule (lms_of states j)) }
+    ensures { result ≡ below channels (λ j. history_rule (lms_of states.now j)) }
 {
     states[..channels].iter().all(|lms| are_short(lms.history))
 }
@@ -33,7 +33,7 @@ pub fn is_good_encoder(e: QoaEncoder) -> bool
     {
         return false;
     }
-    are_good_histories(e.lms, channels)
+    are_good_histories(&e.lms, channels)
 }
 
 // The first channel that has a weight out of 16 bits.

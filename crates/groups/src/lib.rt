@@ -10,7 +10,7 @@ ghost use Rattle.groups.specs.Channel.{channel_at, run_after};
 ghost use Rattle.groups.specs.Groups.{groups_at};
 ghost use Rattle.groups.specs.Parts.{AllWithin, groups_states};
 
-use format::frame::{QOA_MAX_CHANNELS, QOA_SLICE_LEN, slices_of};
+use format::frame::{QOA_MAX_CHANNELS, QOA_SLICE_LEN};
 use lms::QoaLms;
 use scale::Dequant;
 use slice::decode_slice;
@@ -33,7 +33,8 @@ pub fn decode_channel(
     ensures state { result ≡ run_after (λ g. be64 bytes.now (at + 8 * (g * channels))) lms (slices_of samples) }
     ensures samples { out.new ≡ written (channel_at (λ g. be64 bytes.now (at + 8 * (g * channels))) lms) out.old start channels samples }
 {
-    let slices = slices_of(samples);
+    // kept: `slices_of` here makes the compiler spill the newest sample in the loops of `slice`, and decoding is 5 percent slower (SPEED.md).
+    let slices = (samples + QOA_SLICE_LEN - 1) / QOA_SLICE_LEN;
     let mut state = lms;
     // kept: the number g says where the slice's word and its samples stand.
     for g in 0..slices {

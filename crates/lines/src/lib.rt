@@ -6,4 +6,6 @@ pub mod digit;
 pub mod hex;
 pub mod lists;
 pub mod parts;
+pub mod put;
+pub mod search;
 pub mod text;

@@ -1,9 +1,9 @@
 // A text that grows in a fixed place. Where bytes do not fit they are refused, and the place counts as full from then on.
-ghost use Rattle.std.specs.Prelude.{◌≡◌, ◌*◌, ◌≤◌, leb, length, take};
+ghost use Rattle.std.specs.Prelude.{◌≡◌, ◌*◌, ◌≤◌, leb, length, replicate, take};
 ghost use Rattle.lines.specs.Hex.{digit_of};
 ghost use Rattle.lines.specs.Output.{Put, byte_at};
 
-use crate::hex::store_hex;
+use crate::put::{put_hex, put_text};
 
 // The bytes of the place, and how many of them are filled. kept: an array with its length, since a program has no heap.
 #[derive(Drop)]
@@ -15,7 +15,7 @@ pub struct Text<const N: usize> {
 
 impl<const N: usize> Text<N> {
     pub fn new() -> Self
-        ensures { result.len ≡ 0 }
+        ensures { (result.len ≡ 0) × (result.bytes ≡ replicate N 0) }
     {
         Text {
             bytes: [0; N],
@@ -38,37 +38,22 @@ impl<const N: usize> Text<N> {
     }
 
     pub fn clear(&mut self)
-        ensures { self.new.len ≡ 0 }
+        ensures { (self.new.len ≡ 0) × (self.new.bytes ≡ self.old.bytes) }
     {
         self.len = 0;
     }
 
     // More bytes.
-    #[tactic(auto, using(std::proofs::lemmas::Bool::Decides::nat_tests, crate::proofs::OutputLaws::copied), unfolding(crate::specs::Output::appended, crate::specs::Output::grown))]
     pub fn put(&mut self, text: &[u8])
         ensures { Put (byte_at text.now) (length text.now) self.old.len self.old.bytes self.new.bytes self.new.len }
     {
-        let at = self.len;
-        if text.len() < N - at {
-            let room = &mut self.bytes[..];
-            room[at..at + text.len()].copy_from_slice(text);
-            self.len = at + text.len();
-        } else {
-            self.len = N;
-        }
+        self.len = put_text(&mut self.bytes, self.len, text);
     }
 
     // The digits of bytes.
-    #[tactic(auto, using(std::proofs::lemmas::Bool::Decides::nat_tests), unfolding(crate::specs::Output::appended, crate::specs::Output::grown))]
     pub fn put_hex(&mut self, bytes: &[u8])
         ensures { Put (digit_of bytes.now) (length bytes.now * 2) self.old.len self.old.bytes self.new.bytes self.new.len }
     {
-        let at = self.len;
-        if bytes.len() * 2 < N - at {
-            store_hex(&mut self.bytes, at, bytes);
-            self.len = at + bytes.len() * 2;
-        } else {
-            self.len = N;
-        }
+        self.len = put_hex(&mut self.bytes, self.len, bytes);
     }
 }

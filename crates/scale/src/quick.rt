@@ -18,8 +18,8 @@ const QUICK_CODES: [u8; 34] = [
 pub struct Coding {
     pub reciprocals: [i32; 16],
     pub codes: [u8; 34],
-    ghost all_reciprocals: { reciprocals ≡ reciprocal_tab },
-    ghost all_codes: { codes ≡ quick_codes },
+    pub ghost all_reciprocals: { reciprocals ≡ reciprocal_tab },
+    pub ghost all_codes: { codes ≡ quick_codes },
 }
 
 // All that a search reads, made once per frame: a constant is built anew at each use.
@@ -28,7 +28,7 @@ pub struct QuickTables {
     pub tab: Dequant,
     pub quick: [[i16; 34]; 16],
     pub coding: Coding,
-    ghost quick_rows: { quick ≡ quick_tab },
+    pub ghost quick_rows: { quick ≡ quick_tab },
 }
 
 // The quick row of a scale factor, which is copied by value: one load gives a residual's table value.
@@ -36,8 +36,8 @@ pub struct QuickTables {
 pub struct QuickRow {
     pub sf: usize,
     pub values: [i16; 34],
-    ghost numbered: { sf < 16 },
-    ghost own: { values ≡ quick_row sf },
+    pub ghost numbered: { sf < 16 },
+    pub ghost own: { values ≡ quick_row sf },
 }
 
 // A residual's code at a scale factor, and the table value of that code.
@@ -138,12 +138,13 @@ impl QuickTables {
 
 impl QuickRow {
     // The table value of that code. The half is taken first: it is known before the place.
-    pub fn quick_value(&self, coding: &Coding, v: i32) -> i32
+    pub fn quick_value(&self, reciprocals: &[i32; 16], v: i32) -> i32
+        requires { reciprocals.now ≡ reciprocal_tab }
         ensures { result ≡ slice_index_or (row_of self.now.sf) (code_for (divided_by v self.now.sf)) (pos 0) }
     {
         let start = half(v);
         let half_row = &self.values[start..start + 17];
-        half_row[place(v, coding.reciprocals[self.sf])] as i32
+        half_row[place(v, reciprocals[self.sf])] as i32
     }
 }
 
@@ -170,7 +171,7 @@ impl Coder for QuickRow {
     fn coded(&self, coding: &Coding, v: i32) -> Coded {
         Coded {
             code: coding.quick_code(v, self.sf),
-            value: self.quick_value(coding, v),
+            value: self.quick_value(&coding.reciprocals, v),
         }
     }
 }

@@ -7,7 +7,7 @@ ghost use Rattle.scale.specs.Parts.{dequant_tab};
 #[derive(Clone, Copy)]
 pub struct Dequant {
     pub rows: [[i32; 8]; 16],
-    ghost whole: { rows ≡ dequant_tab },
+    pub ghost whole: { rows ≡ dequant_tab },
 }
 
 // The row of a scale factor, which is copied by value.
@@ -15,8 +15,8 @@ pub struct Dequant {
 pub struct Row {
     pub sf: usize,
     pub values: [i32; 8],
-    ghost numbered: { sf < 16 },
-    ghost own: { values ≡ row_of sf },
+    pub ghost numbered: { sf < 16 },
+    pub ghost own: { values ≡ row_of sf },
 }
 
 impl Dequant {

@@ -29,7 +29,7 @@ fn read_number(bytes: &[u8], at: usize, n: usize) -> u64
 }
 
 // Stores the lowest `n` bytes of a number from a place on, the topmost first.
-fn write_number(out: &mut [u8], at: usize, word: u64, n: usize)
+pub fn write_number(out: &mut [u8], at: usize, word: u64, n: usize)
     requires { (n ≤ 8) × (at + n ≤ length out.old) }
     ensures { out.new ≡ put n out.old at word }
 {

@@ -16,6 +16,12 @@ use Rattle.groups.proofs.Runs.{channel_stored}
 use Rattle.groups.proofs.decode_channel.Goals as goal
 use Rattle.groups.proofs.decode_channel.Goals.{In-loop-g}
 
+pub overflow_add-slices : goal.overflow_add-slices
+overflow_add-slices c = omega arith
+
+pub overflow_sub-slices : goal.overflow_sub-slices
+overflow_sub-slices c = omega arith
+
 pub loop-g-init : goal.loop-g-init
 unfolding run_after written
 loop-g-init c = (omega arith, refl, rw zero-min)
@@ -24,7 +30,22 @@ loop-g-init c = (omega arith, refl, rw zero-min)
 bytes_fit : (c : In-loop-g) →
     let args = c.args in
     args.at + 8 * (c.loop-g.g * args.channels) + 8 ≤ length args.bytes.now
-bytes_fit c = c.requires.whole c.loop-g.g (omega arith)
+unfolding slices_of
+bytes_fit c =
+    let h : c.loop-g.g < slices_of c.args.samples = omega arith in
+    c.requires.whole c.loop-g.g h
+
+pub overflow_mul-g : goal.overflow_mul-g
+overflow_mul-g c = omega (arith, bytes_fit c, c.well_formed)
+
+pub overflow_mul-g-in-loop-g : goal.overflow_mul-g-in-loop-g
+overflow_mul-g-in-loop-g c = omega (arith, bytes_fit c, c.well_formed)
+
+pub overflow_add-at : goal.overflow_add-at
+overflow_add-at c = omega (arith, bytes_fit c, c.well_formed)
+
+pub read_be-word-requires : goal.read_be-word-requires
+read_be-word-requires c = bytes_fit c
 
 pub overflow_mul-done : goal.overflow_mul-done
 unfolding slices_of

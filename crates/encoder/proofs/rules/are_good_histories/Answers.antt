@@ -15,5 +15,5 @@ pub returns : goal.returns
 unfolding history_rule
 returns c =
     let args = c.args in
-    all_from_yields_List history_rule _ _ _ c.all.ensures.ran (YieldsList-from_slice (take args.channels args.states) cc) (λ x b q k. search (rules, tests))
-    ∙ sym (below_list history_rule args.states no_lms args.channels (omega arith))
+    all_from_yields_List history_rule _ _ _ c.all.ensures.ran (YieldsList-from_slice (take args.channels args.states.now) cc) (λ x b q k. search (rules, tests))
+    ∙ sym (below_list history_rule args.states.now no_lms args.channels (omega arith))

@@ -17,7 +17,7 @@ half-small c = rw (half_is c) (half_le _)
 place_is : (c : After-place) → c.place.result ≡ quick_place (shifted c.args.v c.args.self.now.sf)
 place_is c =
     let sf = c.args.self.now.sf in
-    let r = returned w32 _ (search rules) (ap (λ l. get_or l sf (pos 0)) c.args.coding.now.all_reciprocals ∙ reciprocal_entry sf c.args.self.now.numbered) in
+    let r = returned w32 _ (search rules) (ap (λ l. get_or l sf (pos 0)) c.requires ∙ reciprocal_entry sf c.args.self.now.numbered) in
     c.place.ensures sf r ∙ ap (λ (x : ℤ). quick_place (shifted x sf)) (to_z-of_z c.ranges.v)
 
 place-small : (c : After-place) → c.place.result < 17
