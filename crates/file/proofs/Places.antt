@@ -1,11 +1,11 @@
--- A frame read where it stands, at the start of the bytes: its states and slices. Assumes nothing.
+-- A frame read where it stands, at the start of the bytes: its header, states and slices. Assumes nothing.
 use Prim.Native.Nat.{ℕ, zero, suc, ◌+◌, ◌*◌, ◌/◌, ◌%◌, ◌≤◌, ◌<◌}
 use mathlib.Core.Path.{◌≡◌, sym, ap, ◌∙◌}
 use mathlib.Core.List.{List}
-use native.Mathlib.Nat.{mod-lt, mul-le-mul_right, mul-one, mul-zero, not-suc-le-zero, zero-add}
+use native.Mathlib.Nat.{mod-lt, mul-le-mul_right, mul-one, mul-zero, not-suc-le-zero, zero-add, add-zero}
 use native.Mathlib.Omega.{arith}
 use lib.IntN.{ℤ}
-use lib.ListN.{length, take}
+use lib.ListN.{length, take, drop}
 use Rattle.word.specs.Table.{table}
 use Rattle.word.proofs.Tables.{get_or_table, table_ext}
 use Rattle.word.proofs.Writes.{written_at}
@@ -25,6 +25,11 @@ use Rattle.file.specs.Walk.{frame_at}
 use Rattle.file.proofs.Frames.{header_at_lem}
 use Rattle.groups.specs.Parts.{AllWithin}
 use Rattle.word.specs.Parts.{written}
+use Rattle.format.proofs.Headers.{header_drop}
+
+-- the header at the start of what is left from a place on
+pub header_here : (b : List ℕ) (at : ℕ) → header_at (drop at b) 0 ≡ header_at b at
+header_here b at = rw add-zero at (header_drop at b 0)
 
 -- ---- the states
 

@@ -5,11 +5,11 @@ use mathlib.Core.List.{List, ◌++◌}
 use mathlib.Core.Option.{none, some}
 use native.Mathlib.Nat.{add_assoc, add-zero, zero-add, mul-le-mul}
 use native.Mathlib.Omega.{arith}
-use lib.ListN.{length, get_or, take, get_or-append}
-use lib.Seq.{get_or-take}
+use lib.ListN.{length, get_or, take, drop, get_or-append}
+use lib.Seq.{get_or-take, get_or-drop, get_or-append-add}
 use Rattle.refusal.specs.Rules.{Answer, good, refused, first_of, after}
 use Rattle.word.specs.Bytes.{be, be64, bytes_of}
-use Rattle.word.proofs.BytesLaws.{be_ext, be_lt_bits, byte_at, length_bytes}
+use Rattle.word.proofs.BytesLaws.{be_ext, be_lt_bits, byte_at, length_bytes, put_at}
 use Rattle.refusal.proofs.Rules.{Quiet, after_good, good_after, good_same, refused_at}
 use Rattle.word.proofs.Tests.{tests}
 use Rattle.format.specs.Format.{slices_of, state_end, frame_length}
@@ -18,6 +18,7 @@ use Rattle.format.specs.Grammar.{Passes}
 use Rattle.format.specs.declared.frame.FrameHeader.{FrameHeader}
 use Rattle.word.proofs.Fields.{AreBytes, Stored, be_field, stored_field}
 use Rattle.format.specs.Parts.{header_fields}
+use Rattle.word.specs.Parts.{put}
 
 -- ---- where a header is read: it is that of its 8 bytes
 
@@ -32,11 +33,17 @@ header_ext bs cs p q same =
     let size = part 2 6 (omega arith) in
     λ i. record { channels = channels i; rate = rate i; samples = samples i; size = size i }
 
+pub header_drop : (k : ℕ) (bs : List ℕ) (p : ℕ) → header_at (drop k bs) p ≡ header_at bs (k + p)
+header_drop k bs p = header_ext (drop k bs) bs p (k + p) (λ i h. rw (get_or-drop, add_assoc))
+
 pub header_take : (k : ℕ) (bs : List ℕ) (p : ℕ) → p + 8 ≤ k → header_at (take k bs) p ≡ header_at bs p
 header_take k bs p room = header_ext (take k bs) bs p p (λ i h. get_or-take k bs (p + i) 0 (omega arith))
 
 pub header_append : (xs ys : List ℕ) (p : ℕ) → p + 8 ≤ length xs → header_at (xs ++ ys) p ≡ header_at xs p
 header_append xs ys p room = header_ext (xs ++ ys) xs p p (λ i h. get_or-append xs ys 0 (p + i) (omega arith))
+
+pub header_past : (xs ys : List ℕ) (p : ℕ) → header_at (xs ++ ys) (length xs + p) ≡ header_at ys p
+header_past xs ys p = header_ext (xs ++ ys) ys (length xs + p) p (λ i h. rw add_assoc (get_or-append-add xs ys (p + i) 0))
 
 -- ---- a header and its word
 
@@ -95,6 +102,9 @@ header_stored bs p h s stored =
     let size = stored_field 6 2 0 w bs p stored small in
     let fields : header_at bs p ≡ header_fields w = λ i. record { channels = channels i; rate = rate i; samples = samples i; size = size i } in
     fields ∙ fields_of_word h s
+
+pub header_of_put : (out : List ℕ) (p : ℕ) (h : FrameHeader) → InRange h → p + 8 ≤ length out → header_at (put 8 out p (header_word h)) p ≡ h
+header_of_put out p h s room = header_stored (put 8 out p (header_word h)) p h s (λ i l. put_at 8 out p (header_word h) i l room)
 
 pub header_of_bytes : (h : FrameHeader) (rest : List ℕ) → InRange h → header_at (bytes_of 8 (header_word h) ++ rest) 0 ≡ h
 header_of_bytes h rest s =

@@ -108,6 +108,10 @@ module _ (bs : List ℕ) (v : View) (k : ℕ) (there : k ≤ total v) where
   unfolding taken_from
   remaining_sum = product_parts (v.remaining - groups_samples v q) (groups_samples v q) v.remaining c (omega arith)
 
+  channels_onward : channels_of onward ≡ c
+  unfolding taken_from
+  channels_onward = refl
+
   total_sum : total onward + k ≡ total v
   unfolding taken_from
   total_sum = omega (arith, waiting_onward, remaining_sum)

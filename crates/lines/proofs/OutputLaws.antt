@@ -1,7 +1,7 @@
 -- A text that grows, and stores in a row. Assumes nothing.
 use mathlib.Core.Path.{◌≡◌, refl, sym, ap, ◌∙◌}
 use mathlib.Core.List.{List, [], ◌++◌, append_assoc, append-nil}
-use Prim.Native.Nat.{ℕ, ◌+◌, ◌≤◌}
+use Prim.Native.Nat.{ℕ, ◌+◌, ◌≤◌, ◌<◌}
 use native.Mathlib.Nat.{mul-one, zero-add}
 use native.Mathlib.Numerals.{add-one}
 use native.Mathlib.Omega.{arith}
@@ -14,7 +14,43 @@ use Rattle.word.specs.Parts.{written}
 use Rattle.word.specs.Table.{table}
 use Rattle.word.proofs.Tables.{table_ext, table_of}
 use Rattle.word.proofs.Writes.{written_list}
-use Rattle.lines.specs.Output.{byte_at}
+use Rattle.lines.specs.Output.{byte_at, Put, appended, grown}
+use mathlib.Core.Bool.{Bool, true, false}
+use borrow.Author.Tests.{ltb-true}
+use lib.Dec.{ltb}
+
+-- what fits, and what does not
+pub grown_fits : (room at n : ℕ) → ltb (at + n) room ≡ true → grown room at n ≡ at + n
+unfolding grown
+grown_fits room at n h = simp h
+
+pub grown_full : (room at n : ℕ) → ltb (at + n) room ≡ false → grown room at n ≡ room
+unfolding grown
+grown_full room at n h = simp h
+
+pub appended_fits : (f : ℕ → ℕ) (n : ℕ) (out : List ℕ) (at : ℕ) → ltb (at + n) (length out) ≡ true → appended f n out at ≡ written f out at 1 n
+unfolding appended
+appended_fits f n out at h = simp h
+
+pub appended_full : (f : ℕ → ℕ) (n : ℕ) (out : List ℕ) (at : ℕ) → ltb (at + n) (length out) ≡ false → appended f n out at ≡ out
+unfolding appended
+appended_full f n out at h = simp h
+
+-- the answer of an append, from its test
+module _ (f : ℕ → ℕ) (n : ℕ) (out : List ℕ) (at : ℕ) {fit : Bool} (e : fit ≡ ltb (at + n) (length out)) where
+  pub put_fits : {out' : List ℕ} → fit ≡ true → out' ≡ written f out at 1 n → Put f n at out out' (at + n)
+  put_fits t w =
+      let yes : ltb (at + n) (length out) ≡ true = sym e ∙ t in
+      record { filled = sym (grown_fits (length out) at n yes); output = w ∙ sym (appended_fits f n out at yes); within = omega (arith, ltb-true (at + n) (length out) yes) }
+
+  pub put_full : fit ≡ false → Put f n at out out (length out)
+  put_full t =
+      let no : ltb (at + n) (length out) ≡ false = sym e ∙ t in
+      record { filled = sym (grown_full (length out) at n no); output = sym (appended_full f n out at no); within = omega arith }
+
+-- what fits ends within the room
+pub put_room : (at n room : ℕ) {fit : Bool} → fit ≡ ltb (at + n) room → fit ≡ true → at + n < room
+put_room at n room e t = ltb-true (at + n) room (sym e ∙ t)
 
 -- a text that is copied over a part of a list is stored in a row
 pub copied : (text out : List ℕ) (at k : ℕ) → k ≡ length text → at + length text ≤ length out → put_mid at k out text ≡ written (byte_at text) out at 1 (length text)

@@ -1,6 +1,6 @@
 -- The ranges of the definitions, which callers need for what the functions require.
 -- Assumes nothing.
-use Rattle.std.proofs.Common.{◌≡◌, ℕ, zero, suc, ◌+◌, ◌-◌, ◌^◌, ◌<◌, ◌≤◌, Bool, true, false, ltb, ℤ, pos, negsuc, ◌+ℤ◌, ◌-ℤ◌, nat_abs, ap, zero-le, le_trans, le_refl, add-le-add, arith, lit<, ltb→lt, w16, SFits}
+use Rattle.std.proofs.Common.{◌≡◌, ℕ, zero, suc, ◌+◌, ◌-◌, ◌^◌, ◌<◌, ◌≤◌, Bool, true, false, ltb, leb, length, ℤ, pos, negsuc, ◌+ℤ◌, ◌-ℤ◌, nat_abs, refl, ap, zero-le, le_trans, le_refl, add-le-add, arith, lit<, ltb→lt, leb→le, w16, SFits}
 use lib.Signed.{lt_z, mag, shr_z}
 use Rattle.wrap.specs.Wrap.{wrap32}
 use Rattle.wrap.proofs.Elements.{everywhere}
@@ -39,6 +39,10 @@ clamp16_kept (pos n) h = ap pos (omega arith)
 clamp16_kept (negsuc n) h = ap negsuc (omega arith)
 
 -- ---- a new predictor
+
+pub new_within : WeightsWithin 16384 new_lms
+unfolding new_lms
+new_within = record { bound = λ i. leb→le _ _ (everywhere (λ z. leb (nat_abs z) 16384) (pos 0) new_lms.weights tt i) }
 
 pub new_fits : HistoryFits new_lms
 unfolding new_lms
@@ -79,3 +83,9 @@ moved_fits lms sample residual f g (suc (suc (suc (suc i)))) = record { sfits = 
 
 pub update_fits : {lms : QoaLms} (sample residual : ℤ) → SFits w16 sample → HistoryFits lms → HistoryFits (updated lms sample residual)
 update_fits {lms} sample residual g f = record { fit = moved_fits lms sample residual f g }
+
+-- ---- both lists of an updated predictor have four numbers
+
+pub update_lengths : (lms : QoaLms) (sample residual : ℤ) → (length (updated lms sample residual).history ≡ 4) × (length (updated lms sample residual).weights ≡ 4)
+unfolding updated
+update_lengths lms sample residual = (refl, refl)

@@ -8,7 +8,7 @@ use native.Mathlib.Decide.{dec_le}
 use native.Mathlib.Nat.{lt_of_mul-lt-mul_right, mul-lt-mul_of_pos_right, mul-div_left, mul-le-mul_left, mul-le-mul_right, eq-or-lt_of_le, le_of_suc-le-suc}
 use native.Mathlib.Omega.{arith}
 use lib.IntN.{ℤ}
-use lib.ListN.{length, length-append, length-drop, length-take}
+use lib.ListN.{length, length-append, length-drop, length-take, take, drop}
 use Rattle.format.specs.Format.{frame_len, frame_length, slices_of, state_end}
 use Rattle.encoder.specs.Encoder.{EncoderView, encoder_view}
 use Rattle.encoder.specs.Frame.{after_frame, first_wide, frame_bytes, per_channel}
@@ -22,6 +22,18 @@ use Rattle.encoder.proofs.Frames.{after_good, length_frame, wide_view}
 use Rattle.encoder.proofs.GoodEncoders.{Good}
 use Rattle.encoder.proofs.Heads.{length_head}
 use Rattle.refusal.proofs.Lents.{over_then}
+use Rattle.oneshot.proofs.Turns.{take_min}
+
+-- ---- the samples of a frame
+
+-- as a cut from place to place gives them
+pub chunk_part : (c : ℕ) (samples : List ℤ) (f end : ℕ) → end ≡ frame_len * c * f + min (frame_len * c) (length samples - frame_len * c * f)
+    → take (end - frame_len * c * f) (drop (frame_len * c * f) samples) ≡ chunk c samples f
+unfolding chunk
+chunk_part c samples f end e =
+    let start : ℕ = frame_len * c * f in
+    let count : end - start ≡ min (frame_len * c) (length (drop start samples)) = rw length-drop (omega arith) in
+    ap (λ (n : ℕ). take n (drop start samples)) count ∙ take_min (frame_len * c) (drop start samples)
 
 -- ---- the frames of a file
 
@@ -154,6 +166,13 @@ module _ (v : EncoderView) (samples : List ℤ) where
           ∙ wide_view s
           ∙ ap (λ (w : EncoderView). first_wide w.channels w.lms) same
           ∙ ap (λ (c : ℕ). first_wide c (state_before v samples f).lms) (before_channels f)
+
+      -- where the frame's samples start
+      pub chunk_starts : frame_len * s.channels * f ≤ length samples
+      chunk_starts =
+          let w = within in
+          let less : frame_len * f ≤ v.total = omega arith in
+          rw channels_are (omega (arith, long, mul-le-mul_right v.channels less))
 
       -- what `put_frame` asks
       pub chunk_fits : first_wide v.channels (state_before v samples f).lms ≡ none → FrameFits (encoder_view s) (chunk v.channels samples f)

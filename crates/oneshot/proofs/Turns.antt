@@ -23,7 +23,7 @@ pub record AtTurn (most : ℕ) (samples : List ℤ) (n : ℕ) (s : Enumerate (Ch
   pub count : enumerate_count s ≡ n
 
 module _ {A : Type 0} (m : ℕ) where
-  take_min : (l : List A) → take (min m (length l)) l ≡ take m l
+  pub take_min : (l : List A) → take (min m (length l)) l ≡ take m l
   take_min l =
       dite (dec_le m (length l))
       (λ less. let same : min m (length l) ≡ m = omega arith in ap (λ (n : ℕ). take n l) same)

@@ -1,14 +1,15 @@
 -- Laws of a channel's predictor state in bytes. Assumes nothing.
 use Prim.Native.Nat.{ℕ, zero, suc, ◌+◌, ◌-◌, ◌*◌, ◌%◌, ◌^◌, ◌≤◌, ◌<◌}
 use mathlib.Core.Path.{◌≡◌, refl, ap, ◌∙◌}
-use mathlib.Core.List.{List}
+use mathlib.Core.List.{List, ◌++◌}
+use mathlib.Core.Logic.{◌≢◌, ◌⊎◌, ⊎_elim}
 use native.Mathlib.Nat.{add_assoc, mul-one}
 use native.Mathlib.Omega.{arith}
 use lib.Bits.{bit_or}
 use lib.Dec.{lit<, lit≤}
 use lib.IntN.{ℤ, pos, negsuc, nat_abs}
-use lib.ListN.{length, get_or, take}
-use lib.Seq.{get_or-take}
+use lib.ListN.{length, get_or, take, drop, get_or-append}
+use lib.Seq.{get_or-take, get_or-drop, get_or-append-add}
 use mir.Syntax.{w16}
 use mir.Val.{SFits, to_z}
 use mir.ValLaws.{to_z-Fits}
@@ -19,7 +20,7 @@ use Rattle.wrap.proofs.Patterns.{read_low}
 use Rattle.word.specs.Table.{table}
 use Rattle.word.specs.Bytes.{be, be64, byte_of}
 use Rattle.word.specs.Word.{field}
-use Rattle.word.proofs.Tables.{table_ext, table_of}
+use Rattle.word.proofs.Tables.{length_table, table_ext, table_of}
 use Rattle.word.proofs.BytesLaws.{be_ext, be_lt_bits, length_put, put_at}
 use Rattle.word.proofs.Writes.{written_other}
 use Rattle.lms.specs.Predictor.{at}
@@ -48,8 +49,17 @@ lms_ext bs cs p q same =
     let weights = four_ext bs cs (p + 8) (q + 8) (λ i h. rw (add_assoc p 8 i, add_assoc q 8 i) (same (8 + i) (omega arith))) in
     λ j. record { history = history j; weights = weights j }
 
+pub lms_drop : (k : ℕ) (bs : List ℕ) (p : ℕ) → lms_at (drop k bs) p ≡ lms_at bs (k + p)
+lms_drop k bs p = lms_ext (drop k bs) bs p (k + p) (λ i h. rw (get_or-drop, add_assoc))
+
 pub lms_take : (k : ℕ) (bs : List ℕ) (p : ℕ) → p + 16 ≤ k → lms_at (take k bs) p ≡ lms_at bs p
 lms_take k bs p room = lms_ext (take k bs) bs p p (λ i h. get_or-take k bs (p + i) 0 (omega arith))
+
+pub lms_append : (xs ys : List ℕ) (p : ℕ) → p + 16 ≤ length xs → lms_at (xs ++ ys) p ≡ lms_at xs p
+lms_append xs ys p room = lms_ext (xs ++ ys) xs p p (λ i h. get_or-append xs ys 0 (p + i) (omega arith))
+
+pub lms_past : (xs ys : List ℕ) (p : ℕ) → lms_at (xs ++ ys) (length xs + p) ≡ lms_at ys p
+lms_past xs ys p = lms_ext (xs ++ ys) ys (length xs + p) p (λ i h. rw add_assoc (get_or-append-add xs ys (p + i) 0))
 
 -- ---- its numbers are of 16 bits, four and four
 
@@ -64,6 +74,10 @@ module _ (bs : List ℕ) (p : ℕ) (bytes : AreBytes bs) where
   pub read_within : WeightsWithin 32768 (lms_at bs p)
   unfolding lms_at
   read_within = record { bound = at_each (λ z. nat_abs z ≤ 32768) 4 (λ i. signed_at bs (p + 8 + 2 * i)) (pos 0) (lit≤ tt) (λ i. abs_fits (signed_fits (p + 8 + 2 * i))) }
+
+pub read_lengths : (bs : List ℕ) (p : ℕ) → (length (lms_at bs p).history ≡ 4) × (length (lms_at bs p).weights ≡ 4)
+unfolding lms_at
+read_lengths bs p = (length_table 4 (λ i. signed_at bs (p + 2 * i)), length_table 4 (λ i. signed_at bs (p + 8 + 2 * i)))
 
 -- ---- four numbers and their word
 
@@ -131,6 +145,21 @@ low_low (pos n) = omega arith
 low_low (negsuc n) = omega arith
 
 -- ---- a stored state is read back
+
+pub length_put_lms : (out : List ℕ) (p : ℕ) (lms : QoaLms) → length (put_lms out p lms) ≡ length out
+unfolding put_lms
+length_put_lms out p lms = rw (length_put, length_put)
+
+-- elsewhere a byte is as it was
+pub put_lms_other : (out : List ℕ) (p : ℕ) (lms : QoaLms) (i : ℕ) → (i < p) ⊎ (p + 16 ≤ i) → get_or (put_lms out p lms) i 0 ≡ get_or out i 0
+unfolding put_lms
+put_lms_other out p lms i apart =
+    let h = four_word lms.history in
+    let w = four_word lms.weights in
+    let away : (q j : ℕ) → p ≤ q → q ≤ p + 8 → j < 8 → i ≢ q + j * 1 =
+    λ q j low high l e. ⊎_elim (λ before. omega (arith, mul-one j)) (λ behind. omega (arith, mul-one j)) apart in
+    written_other (byte_of 8 w) (put 8 out p h) (p + 8) 1 8 i 0 (λ j l. away (p + 8) j (omega arith) (omega arith) l)
+    ∙ written_other (byte_of 8 h) out p 1 8 i 0 (λ j l. away p j (omega arith) (omega arith) l)
 
 -- any state: the low 16 bits of its numbers
 pub lms_of_put_low : (out : List ℕ) (p : ℕ) (lms : QoaLms) → p + 16 ≤ length out

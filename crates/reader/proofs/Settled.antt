@@ -39,6 +39,11 @@ handed_one : (o : Option ℕ) (at : ℕ) (d : QoaDecoder) (v : View) (m n : ℕ)
 handed_one none at d v m n a b p q = (p.0 ∙ sym q.0, p.1 ∙ sym q.1)
 handed_one (some k) at d v m n a b p q = (p.0 ∙ sym q.0, ap view (p.1 ∙ sym q.1))
 
+-- two readers and states that one call hands back
+read_one : (o : Option ℕ) (g : Reader) (d : QoaDecoder) (v : View) (r s : Reader) (a b : QoaDecoder) → r.src ≡ g.src → s.src ≡ g.src
+    → Handed o g.at d v r.at a → Handed o g.at d v s.at b → (r ≡ s) × (view a ≡ view b)
+read_one o g d v r s a b p q x y = let one = handed_one o g.at d v r.at s.at a b x y in (same_reader r s g.src p q one.0, one.1)
+
 given : {A : Type 0} (o : Option ℕ) (at : ℕ) (d : QoaDecoder) (v : View) (x : A) (n m : ℕ) (a : QoaDecoder) → refused n ≡ unless o (good x) → Handed o at d v m a → (m ≡ at) × (a ≡ d)
 given none at d v x n m a e p = never x n (sym e)
 given (some k) at d v x n m a e p = p
@@ -55,8 +60,8 @@ module _ {A : Type 0} (rules : List Rule) (x : A) (d : QoaDecoder) (v : View) wh
   read_settled : (g : Reader) (r s : Read A) → (r.reader.src ≡ g.src) × HandedDone rules x g.at d v r.reader.at r.done → (s.reader.src ≡ g.src) × HandedDone rules x g.at d v s.reader.at s.done
       → (r.reader ≡ s.reader) × (r.done.answer ≡ s.done.answer) × (view r.done.state ≡ view s.done.state)
   read_settled g r s p q =
-      let one = handed_settled g.at r.reader.at s.reader.at r.done s.done p.1 q.1 in
-      (same_reader r.reader s.reader g.src p.0 q.0 one.0, one.1, one.2)
+      let one = read_one (first_of rules) g d v r.reader s.reader r.done.state s.done.state p.0 q.0 p.1.left q.1.left in
+      (one.0, told_lem r.done.answer s.done.answer (p.1.told ∙ sym q.1.told), one.1)
 
   -- a refusal hands back place and state as given
   as_given : (at m : ℕ) (e : Refusal) (r : Done (Result A Refusal) QoaDecoder) → HandedDone rules x at d v m r → r.answer ≡ Err e → (m ≡ at) × (r.state ≡ d)

@@ -7,7 +7,7 @@ use lib.Dec.{lit<}
 use lib.ListN.{get_or}
 use Rattle.std.specs.Prelude.{Result, Ok, Err}
 use Rattle.std.specs.Result.{IsErrAnd}
-use Rattle.refusal.specs.Rules.{good, refused}
+use Rattle.refusal.specs.Rules.{good, refused, Answer}
 use Rattle.refusal.specs.Refusals.{number_of, told, told_refusal}
 use Rattle.refusal.specs.declared.Refusal.{Refusal}
 use Rattle.refusal.specs.declared.Refusal.TheVariants.{NotQoaFile, NoSamples, InvalidFrameHeader, IncompatibleFrame, Truncated, TooManyChannels, OutputTooSmall, BadState, InputTooLong, InvalidChannels, InvalidSampleRate, InvalidSamples, WeightRange}
@@ -56,9 +56,14 @@ number_some WeightRange = lit< tt
 pub told_one : {A B : Type 0} (told : B → A) (back : A → B) → ((b : B) → back (told b) ≡ b) → (a b : B) → told a ≡ told b → a ≡ b
 told_one told back undone a b e = sym (undone a) ∙ ap back e ∙ undone b
 
+-- the answer that tells a value, or a refusal's number
+abbrev pub answered : {A B : Type 0} → (A → B) → (Refusal → B) → Answer A → B
+answered value refusal (good x) = value x
+answered value refusal (refused n) = refusal (by_number n)
+
 -- what is told of an answer settles it
 pub told_lem : {A : Type 0} (a b : Result A Refusal) → told a ≡ told b → a ≡ b
-told_lem = told_one told (elim [ good x ↦ Ok x | refused n ↦ Err (by_number n) ]) (elim [ Ok x ↦ refl | Err r ↦ ap (λ n. Err n) (number_back r) ])
+told_lem = told_one told (answered (λ x. Ok x) (λ r. Err r)) (elim [ Ok x ↦ refl | Err r ↦ ap (λ n. Err n) (number_back r) ])
 
 pub told_refusal_lem : (a b : Result Unit Refusal) → told_refusal a ≡ told_refusal b → a ≡ b
 told_refusal_lem = told_one told_refusal (elim [ none ↦ Ok tt | some n ↦ Err (by_number n) ]) (elim [ Ok u ↦ refl | Err r ↦ ap (λ n. Err n) (number_back r) ])

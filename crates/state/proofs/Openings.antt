@@ -1,6 +1,6 @@
 -- Laws of opening: which rule decides, and the state that is left. Assumes nothing.
 use Prim.Native.Nat.{ℕ, ◌+◌, ◌-◌, ◌*◌, ◌≤◌, ◌<◌}
-use mathlib.Core.Path.{◌≡◌, sym, ◌∙◌}
+use mathlib.Core.Path.{◌≡◌, sym, ◌∙◌, refl}
 use mathlib.Core.Bool.{false, cond}
 use mathlib.Core.List.{List, [], ◌∷◌}
 use mathlib.Core.Option.{none, some}
@@ -18,17 +18,17 @@ use Rattle.format.specs.Format.{max_channels, state_end}
 use Rattle.format.specs.Header.{header_at, left_at}
 use Rattle.format.specs.Checks.{frame_rules}
 use Rattle.format.specs.Predictor.{lms_at}
-use Rattle.refusal.specs.Refusals.{told_refusal}
+use Rattle.refusal.specs.Refusals.{told_refusal, number_of}
 use Rattle.format.specs.declared.frame.FrameHeader.{FrameHeader}
 use Rattle.format.specs.declared.checks.Kind.TheVariants.{Any}
 use Rattle.refusal.specs.declared.Refusal.{Refusal}
 use Rattle.format.proofs.Checking.{checks}
 use Rattle.lms.specs.declared.QoaLms.{QoaLms}
 use Rattle.state.specs.View.{facts_in, none_pending, view, view_of}
-use Rattle.state.specs.Opening.{OpenLeaves, first_rules, open_rules, opened_at, opened_fixed, opened_stream}
+use Rattle.state.specs.Opening.{OpenLeaves, first_rules, open_rules, opened_at, opened_fixed, opened_stream, zero_state}
 use Rattle.state.specs.declared.QoaDecoder.{QoaDecoder}
 use Rattle.state.specs.declared.ProcessingMode.TheVariants.{FixedSamples}
-use Rattle.std.specs.Prelude.{Result}
+use Rattle.std.specs.Prelude.{Result, Ok, Err}
 use Rattle.state.proofs.Views.{stored_lms}
 use Rattle.word.specs.Parts.{written}
 use Rattle.format.specs.Parts.{file_header}
@@ -101,3 +101,9 @@ module _ (bs : List ℕ) where
   -- what the contract says
   abbrev pub Opens : Result Unit Refusal → QoaDecoder → Type 0
   Opens a d = (told_refusal a ≡ first_of (open_rules bs)) × OpenLeaves (first_of (open_rules bs)) bs d
+
+  pub opens_refused : (r : Refusal) (d : QoaDecoder) → first_of (open_rules bs) ≡ some (number_of r) → d ≡ zero_state → Opens (Err r) d
+  opens_refused r d e z = rw e (refl, z)
+
+  pub opens_good : (d : QoaDecoder) → first_of (open_rules bs) ≡ none → view d ≡ opened_at bs → Opens (Ok tt) d
+  opens_good d e v = rw e (refl, v)

@@ -8,7 +8,7 @@ use lib.Dec.{lit<}
 use lib.IntN.{pos}
 use lib.ListN.{get_or, length}
 use Rattle.word.specs.Table.{table}
-use Rattle.word.proofs.Tables.{get_or_table, table_ext}
+use Rattle.word.proofs.Tables.{get_or_table, length_table, table_ext}
 use Rattle.word.proofs.Writes.{written_at}
 use Rattle.lms.specs.declared.QoaLms.{QoaLms}
 use Rattle.format.specs.Predictor.{lms_of, no_lms}
@@ -22,10 +22,18 @@ module _ (d : QoaDecoder) where
   unfolding view
   view_pending i h = get_or_table (d.end - d.next) (λ k. get_or d.pending (d.next + k) (pos 0)) i (pos 0) h
 
+  pub view_waiting : length (view d).pending ≡ d.end - d.next
+  unfolding view
+  view_waiting = length_table (d.end - d.next) (λ k. get_or d.pending (d.next + k) (pos 0))
+
   -- the predictors of the used channels
   pub view_lms : (j : ℕ) → j < d.frame.channels → lms_of (view d).lms j ≡ lms_of d.lms j
   unfolding view
   view_lms j h = get_or_table d.frame.channels (lms_of d.lms) j no_lms h
+
+  pub view_channels : length (view d).lms ≡ d.frame.channels
+  unfolding view
+  view_channels = length_table d.frame.channels (lms_of d.lms)
 
 -- the predictors that were stored over the first of an array's
 pub stored_lms : (f : ℕ → QoaLms) (states : List QoaLms) (c : ℕ) → c ≤ length states → table c (lms_of (written f states 0 1 c)) ≡ table c f

@@ -1,5 +1,5 @@
 -- One turn of a loop over frames, and its end, as facts about the walk of the definitions. Assumes nothing.
-use Prim.Native.Nat.{ℕ, ◌+◌, ◌≤◌, ◌<◌, min}
+use Prim.Native.Nat.{ℕ, ◌+◌, ◌≤◌, ◌<◌, min, ◌-◌}
 use mathlib.Core.Path.{◌≡◌, refl, sym, ap, ◌∙◌}
 use mathlib.Core.List.{List, [], ◌∷◌, ◌++◌, flat_map}
 use mathlib.Core.Logic.{dite}
@@ -9,7 +9,7 @@ use native.Mathlib.Nat.{add-zero, min-eq_left, min-eq_right}
 use native.Mathlib.Omega.{arith}
 use borrow.Author.Tests.{le-ltb, lt-ltb}
 use lib.Dec.{ltb}
-use lib.ListN.{length, length-append}
+use lib.ListN.{length, length-append, drop, length-drop}
 use Rattle.refusal.specs.Rules.{Answer, first_of, good, refused, ◌gives◌, ◌then◌}
 use Rattle.refusal.proofs.Rules.{fires, none_fires}
 use Rattle.word.proofs.Tests.{tests}
@@ -21,6 +21,9 @@ use Rattle.file.proofs.Walks.{walk_step}
 use Rattle.file.proofs.Needs.{frame_need}
 use Rattle.file.proofs.Frames.{header_at_lem}
 use Rattle.survey.specs.Parts.{fit_after, fits}
+use lib.Seq.{drop-drop}
+use Rattle.format.specs.declared.frame.FrameHeader.{FrameHeader}
+use Rattle.file.proofs.Places.{header_here}
 
 -- ---- the walk
 
@@ -77,6 +80,20 @@ module _ (R : WalkRules) (room before : ℕ) (b : List ℕ) (whole : length_of (
   one_frame long passed =
       ap (λ (a : Answer Walk). a then λ w. fits room (before + length (samples_of w.frames))) (walk_on R b long passed)
       ∙ counted (walk_of R (past_frame b))
+
+-- what follows the frame at a place
+pub after_here : (s : List ℕ) (at : ℕ) (h : FrameHeader) → header_at s at ≡ h → past_frame (drop at s) ≡ drop (at + length_of h) s
+after_here s at h e =
+    ap (λ (z : FrameHeader). drop (length_of z) (drop at s)) (header_here s at ∙ e) ∙ drop-drop (length_of h) at s
+
+module _ (R : WalkRules) (room before : ℕ) (s : List ℕ) (at : ℕ) where
+  pub turn : (h : FrameHeader) → header_at s at ≡ h → 8 ≤ length s - at → length_of h ≤ length s - at → first_of (R.frame (drop at s)) ≡ none
+      → fit_after R room before (drop at s) ≡ fit_after R room (min (before + count_of h) (room + 1)) (drop (at + length_of h) s)
+  turn h e long whole passed =
+      let here : header_at (drop at s) 0 ≡ h = header_here s at ∙ e in
+      let size = length-drop at s in
+      one_frame R room before (drop at s) (rw (here, size) whole) (omega arith) passed
+      ∙ rw (after_here s at h e, ap count_of here)
 
 -- a walk that ends, with so many samples before
 module _ (R : WalkRules) (room before : ℕ) (b : List ℕ) where

@@ -3,7 +3,7 @@ use Prim.Native.Nat.{ℕ, ◌+◌, ◌-◌, ◌≤◌, ◌<◌}
 use mathlib.Core.Path.{◌≡◌, refl, sym, ap, ◌∙◌}
 use mathlib.Core.List.{List, [], ◌++◌, flat_map}
 use mathlib.Core.Option.{Option, none, some}
-use native.Mathlib.Nat.{sub-add-eq}
+use native.Mathlib.Nat.{sub-add-eq, sub-zero}
 use native.Mathlib.Omega.{arith}
 use lib.IntN.{ℤ}
 use lib.ListN.{length, drop, length-append}
@@ -109,6 +109,9 @@ pub record Decoded (s : List ℕ) (lent out : List ℤ) (b : List ℕ) (done : �
   pub long : length out ≡ length lent
   pub room : HasRoom (held b) (length out - done)
   pub same : laid_over lent 0 (held s) ≡ laid_over out done (held b)
+
+pub decoded_start : (s : List ℕ) (lent : List ℤ) → HasRoom (held s) (length lent) → Decoded s lent lent s 0
+decoded_start s lent room = record { stored = omega arith; long = refl; room = rw sub-zero room; same = refl }
 
 pub decoded_end : (s : List ℕ) (lent out : List ℤ) (b : List ℕ) (done : ℕ) → Decoded s lent out b done → length b < 8 → out ≡ laid_over lent 0 (held s)
 decoded_end s lent out b done d short =

@@ -1,6 +1,7 @@
 -- Laws of numbers in bytes: where a number is read, how large it is, and that what was stored is what is read. Assumes nothing.
 use mathlib.Core.Path.{◌≡◌, refl, ◌∙◌, sym}
 use mathlib.Core.List.{List, ◌++◌}
+use mathlib.Core.Logic.{◌⊎◌, ⊎_elim}
 use Prim.Native.Nat.{ℕ, zero, suc, ◌+◌, ◌-◌, ◌*◌, ◌/◌, ◌^◌, ◌≤◌, ◌<◌}
 use native.Mathlib.Nat.{add-zero, zero-add, add-suc, add_assoc, sub-zero, mul-one, mul_assoc, pow-suc, div-one, mod-lt, div-eq_of_lt}
 use native.Mathlib.Omega.{arith}
@@ -8,11 +9,11 @@ use lib.Dec.{lit<}
 use lib.Arith.{digits_lt}
 use lib.ListN.{length, get_or, take, drop, get_or-append}
 use lib.Pow.{pow-add}
-use lib.Seq.{get_or-take, get_or-append-add}
+use lib.Seq.{get_or-take, get_or-drop, get_or-append-add}
 use Rattle.word.specs.Bytes.{be, byte_of, bytes_of}
 use Rattle.word.proofs.Push.{next_field}
 use Rattle.word.proofs.Tables.{length_table, get_or_table}
-use Rattle.word.proofs.Writes.{length_written, written_at, written_list}
+use Rattle.word.proofs.Writes.{length_written, written_at, written_other, written_list}
 use Rattle.word.specs.Parts.{put}
 
 -- ---- where a number is read
@@ -22,6 +23,9 @@ pub be_ext : (n : ℕ) (bs cs : List ℕ) (p q : ℕ) → ((i : ℕ) → i < n �
 unfolding be
 be_ext zero bs cs p q same = refl
 be_ext (suc n) bs cs p q same = rw (be_ext n bs cs p q (λ i h. same i (omega arith)), same n (omega arith))
+
+pub be_drop : (n k : ℕ) (bs : List ℕ) (p : ℕ) → be n (drop k bs) p ≡ be n bs (k + p)
+be_drop n k bs p = be_ext n (drop k bs) bs p (k + p) (λ i h. rw (get_or-drop, add_assoc))
 
 pub be_take : (n k : ℕ) (bs : List ℕ) (p : ℕ) → p + n ≤ k → be n (take k bs) p ≡ be n bs p
 be_take n k bs p room = be_ext n (take k bs) bs p p (λ i h. get_or-take k bs (p + i) 0 (omega arith))
@@ -73,6 +77,9 @@ pub byte_at : (n w i : ℕ) → i < n → get_or (bytes_of n w) i 0 ≡ byte_of 
 unfolding bytes_of
 byte_at n w i h = get_or_table n (byte_of n w) i 0 h
 
+pub bytes_below : (n w i : ℕ) → i < n → get_or (bytes_of n w) i 0 < 256
+bytes_below n w i h = rw (byte_at n w i h) (byte_below n w i)
+
 -- where a number's bytes stand, its topmost k bytes make what lies above the others
 tops : (n w : ℕ) (bs : List ℕ) (p : ℕ) → ((i : ℕ) → i < n → get_or bs (p + i) 0 ≡ byte_of n w i) → w < 2 ^ (8 * n)
     → (k : ℕ) → k ≤ n → be k bs p ≡ w / 2 ^ (8 * (n - k))
@@ -101,6 +108,17 @@ module _ (n : ℕ) (out : List ℕ) (p w : ℕ) where
 
   pub put_at : (i : ℕ) → i < n → p + n ≤ length out → get_or (put n out p w) (p + i) 0 ≡ byte_of n w i
   put_at i h room = rw mul-one at (written_at (byte_of n w) out p 1 n i 0 (lit< tt) h (omega (arith, mul-one i)))
+
+  -- what was stored is what is read
+  pub be_of_put : w < 256 ^ n → p + n ≤ length out → be n (put n out p w) p ≡ w
+  be_of_put small room = be_of n w (put n out p w) p (λ i h. put_at i h room) small
+
+  -- elsewhere a number is as it was
+  pub put_other : (m q : ℕ) → (q + m ≤ p) ⊎ (p + n ≤ q) → be m (put n out p w) q ≡ be m out q
+  put_other m q apart =
+      be_ext m (put n out p w) out q q
+      (λ i h. written_other (byte_of n w) out p 1 n (q + i) 0
+      (λ j l e. ⊎_elim (λ before. omega (arith, mul-one j)) (λ behind. omega (arith, mul-one j)) apart))
 
   -- what lies before, the bytes, what lies after
   pub put_list : p + n ≤ length out → put n out p w ≡ take p out ++ (bytes_of n w ++ drop (p + n) out)

@@ -1,14 +1,14 @@
 -- Laws of little-endian numbers and of samples as pairs of bytes: what was stored is what is read. Assumes nothing.
 use mathlib.Core.Path.{◌≡◌, refl, sym, ap, ◌∙◌}
 use mathlib.Core.List.{List, [], ◌∷◌, ◌++◌, append_assoc}
-use Prim.Native.Nat.{ℕ, zero, suc, ◌+◌, ◌*◌, ◌/◌, ◌%◌, ◌^◌, ◌<◌, ◌≤◌}
+use Prim.Native.Nat.{ℕ, zero, suc, ◌+◌, ◌*◌, ◌/◌, ◌%◌, ◌^◌, ◌<◌, ◌≤◌, ◌-◌}
 use native.Mathlib.Nat.{le_of_suc-le-suc, not-suc-le-zero, mod-eq_of_lt}
 use native.Mathlib.Numerals.{add-one}
 use native.Mathlib.Omega.{arith}
 use lib.Dec.{lit≤}
 use lib.IntN.{ℤ, pos}
-use lib.ListN.{length, take, drop, get_or, length-take}
-use lib.Seq.{take-suc, drop-drop, take_at, drop_at}
+use lib.ListN.{length, take, drop, get_or, length-take, set, length-append}
+use lib.Seq.{take-suc, drop-drop, take_at, drop_at, drop-cons, set-append_seam}
 use borrow.Rule.Slice.PartMut.{put_mid}
 use mir.Syntax.{w16}
 use mir.Val.{SFits, of_z, to_z}
@@ -18,6 +18,16 @@ use Rattle.wrap.specs.Wrap.{low16}
 use Rattle.wrap.proofs.Modulo.{modulo_lt}
 use Rattle.wrap.proofs.Patterns.{low_bits, read_low}
 use Rattle.word.specs.Little.{le, le_bytes, le_sample}
+
+-- ---- numbers
+
+-- a byte more below the i bytes that were read, from the top of n bytes on
+pub byte_more : (n i : ℕ) (bs : List ℕ) (p : ℕ) → i < n → le (i + 1) bs (p + (n - (i + 1))) ≡ le i bs (p + (n - i)) * 256 + get_or bs (p + (n - 1 - i)) 0
+unfolding le
+byte_more n i bs p h =
+    let here : p + (n - (i + 1)) ≡ p + (n - 1 - i) = omega arith in
+    let above : p + (n - 1 - i) + 1 ≡ p + (n - i) = omega arith in
+    rw (here, add-one i, above) (omega arith)
 
 -- ---- samples
 
@@ -58,6 +68,29 @@ sample_more block i out ys k two hi ho stored =
     let kept : take (i * 2) (front ++ rest) ≡ front = take_at front rest (i * 2) long in
     let past : drop (i * 2) (front ++ rest) ≡ rest = drop_at front rest (i * 2) long in
     rw (kept, past, drop-drop, ends, bytes, append_assoc)
+
+-- two stores at the seam of what is written and what is not
+two_stores : (front : List ℕ) (p q : ℕ) (back : List ℕ) (a b : ℕ) → set (set (front ++ p ∷ q ∷ back) (length front) a) (length front + 1) b ≡ (front ++ (a ∷ b ∷ [])) ++ back
+two_stores front p q back a b =
+    let one : length (front ++ (a ∷ [])) ≡ length front + 1 = length-append front (a ∷ []) in
+    ap (λ (l : List ℕ). set l (length front + 1) b) (set-append_seam front p (q ∷ back) a ∙ sym (append_assoc front (a ∷ []) (q ∷ back)))
+    ∙ (ap (λ (k : ℕ). set ((front ++ (a ∷ [])) ++ q ∷ back) k b) (sym one)
+    ∙ (set-append_seam (front ++ (a ∷ [])) q back b ∙ (append_assoc front (a ∷ []) (b ∷ back) ∙ sym (append_assoc front (a ∷ b ∷ []) back))))
+
+-- one sample more, its two bytes stored one after the other
+pub sample_stores : (block : List ℤ) (i : ℕ) (out : List ℕ) → i < length block → i * 2 + 1 < length out
+    → set (set (le_bytes (take i block) ++ drop (i * 2) out) (i * 2) (low16 (get_or block i (pos 0)) % 256)) (i * 2 + 1) (low16 (get_or block i (pos 0)) / 256)
+    ≡ le_bytes (take (i + 1) block) ++ drop ((i + 1) * 2) out
+sample_stores block i out hi ho =
+    let x = get_or block i (pos 0) in
+    let front = le_bytes (take i block) in
+    let long : length front ≡ i * 2 = omega (arith, length_bytes (take i block), length-take i block) in
+    let first : drop (i * 2) out ≡ get_or out (i * 2) 0 ∷ drop (suc (i * 2)) out = drop-cons out (i * 2) 0 (omega arith) in
+    let second : drop (suc (i * 2)) out ≡ get_or out (suc (i * 2)) 0 ∷ drop (suc (suc (i * 2))) out = drop-cons out (suc (i * 2)) 0 (omega arith) in
+    let ends : suc (suc (i * 2)) ≡ (i + 1) * 2 = omega arith in
+    let whole : take (i + 1) block ≡ take i block ++ (x ∷ []) = ap (λ (k : ℕ). take k block) (add-one i) ∙ take-suc block i (pos 0) hi in
+    let bytes : le_bytes (take (i + 1) block) ≡ front ++ (low16 x % 256 ∷ low16 x / 256 ∷ []) = ap le_bytes whole ∙ (bytes_append (take i block) (x ∷ []) ∙ ap (λ (l : List ℕ). front ++ l) (bytes_one x)) in
+    rw (bytes, first, second, ends, ← long) (two_stores front (get_or out (length front) 0) (get_or out (suc (length front)) 0) (drop ((i + 1) * 2) out) (low16 x % 256) (low16 x / 256))
 
 -- the bytes of the sample at i
 byte_low : (xs : List ℤ) (i : ℕ) → i < length xs → get_or (le_bytes xs) (i * 2) 0 ≡ low16 (get_or xs i (pos 0)) % 256

@@ -1,8 +1,8 @@
 -- The laws of `table`. Assumes nothing.
-use Prim.Native.Nat.{ℕ, zero, suc, ◌<◌, zero-le, suc-le-suc}
+use Prim.Native.Nat.{ℕ, zero, suc, ◌+◌, ◌<◌, zero-le, suc-le-suc}
 use mathlib.Core.Path.{◌≡◌, refl, ap, ap₂}
 use mathlib.Core.List.{List, [], ◌∷◌, ◌++◌}
-use native.Mathlib.Nat.{le_of_suc-le-suc, not-suc-le-zero}
+use native.Mathlib.Nat.{le_of_suc-le-suc, not-suc-le-zero, suc-add, zero-add}
 use native.Mathlib.Omega.{arith}
 use lib.ListN.{length, get_or}
 use Rattle.word.specs.Table.{table}
@@ -33,6 +33,12 @@ module _ {A : Type 0} where
   table_of zero (x ∷ l) d e = absurd (omega arith)
   table_of (suc n) [] d e = absurd (omega arith)
   table_of (suc n) (x ∷ l) d e = ap {B = List A} (λ r. x ∷ r) (table_of n l d (omega arith))
+
+  -- cut in two
+  pub table_append : (m n : ℕ) (f : ℕ → A) → table (m + n) f ≡ table m f ++ table n (λ i. f (m + i))
+  unfolding table
+  table_append zero n f = simp zero-add
+  table_append (suc m) n f = simp (suc-add, table_append m n (λ i. f (suc i)))
 
   -- one entry more
   pub table_last : (n : ℕ) (f : ℕ → A) → table (suc n) f ≡ table n f ++ (f n ∷ [])

@@ -71,6 +71,18 @@ code_missing w n i h l =
     rw shift (shl-shr (w * 2 ^ (3 * (i - n)) * 2 ^ 3) (57 - 3 * i)) in
     ap (λ (m : ℕ). m % 8) up ∙ omega arith
 
+-- twenty codes need no shift
+whole : (w : ℕ) → filled 20 w ≡ w
+unfolding filled
+whole w = mul-one w
+
+module _ (s : ℕ) (f : ℕ → ℕ) (small : (i : ℕ) → i < 20 → f i < 8) where
+  pub code_of_packed : (i : ℕ) → i < 20 → code_of (packed s f 20) i ≡ f i
+  code_of_packed i h = rw whole at (code_of_filled s f 20 (omega arith) small i h)
+
+  pub scale_of_packed : s < 16 → scale_of (packed s f 20) ≡ s
+  scale_of_packed h = rw whole at (scale_of_filled s f 20 (omega arith) small h)
+
 -- a short slice is one of twenty codes, those that are missing being 0
 pub packed_short : (s : ℕ) (f g : ℕ → ℕ) (n k : ℕ) → ((i : ℕ) → i < n → f i ≡ g i) → ((i : ℕ) → n ≤ i → i < n + k → g i ≡ 0)
     → packed s f n * 2 ^ (3 * k) ≡ packed s g (n + k)

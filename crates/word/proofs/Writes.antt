@@ -3,16 +3,17 @@ use mathlib.Core.Path.{◌≡◌, refl, ◌∙◌, ap, sym, subst}
 use mathlib.Core.List.{List, [], ◌∷◌, ◌++◌, append_assoc, append-nil}
 use borrow.Rule.Slice.PartMut.{put_mid}
 use mathlib.Core.Logic.{◌≢◌, ◌⊎◌, inl, inr, ⊎_elim, dite}
-use Prim.Native.Nat.{ℕ, zero, suc, ◌+◌, ◌-◌, ◌*◌, ◌/◌, ◌%◌, ◌≤◌, ◌<◌}
+use Prim.Native.Nat.{ℕ, zero, suc, ◌+◌, ◌-◌, ◌*◌, ◌/◌, ◌%◌, ◌≤◌, ◌<◌, min}
 use native.Mathlib.Decide.{dec_lt}
 use native.Mathlib.Omega.{arith}
-use native.Mathlib.Nat.{mul-lt-mul_of_pos_right, not-suc-le-zero, le_of_suc-le-suc, eq-or-lt_of_le, div-add-mod', div-lt_iff_lt-mul, mod-lt, add-zero, add-suc, add_assoc, add-mul, suc-add, zero-add, mul-one}
+use native.Mathlib.Nat.{mul-lt-mul_of_pos_right, not-suc-le-zero, le_of_suc-le-suc, eq-or-lt_of_le, div-add-mod', div-lt_iff_lt-mul, mod-lt, add-zero, add-suc, add_assoc, add-mul, suc-add, zero-add, mul-one, min-eq_left, min-eq_right}
 use lib.Arith.{digits_lt, digits_mod}
 use lib.ListN.{length, get_or, set, take, drop, length-set, length-append, length-take, length-drop, take-append-drop}
 use lib.Seq.{get_or-set_same, get_or-set_other, ext_get_or, set_at, drop-cons, set-append_left, length-take-le, drop-append_seam, append_snoc, drop-drop}
 use Rattle.word.specs.Table.{table}
 use Rattle.word.proofs.Tables.{length_table, table_last}
 use Rattle.word.specs.Parts.{interleaved, written}
+use native.Mathlib.Numerals.{add-one}
 
 module _ {A : Type 0} (f : ℕ → A) (out : List A) (start stride : ℕ) where
   pub length_written : (n : ℕ) → length (written f out start stride n) ≡ length out
@@ -42,6 +43,17 @@ module _ {A : Type 0} (f : ℕ → A) (out : List A) (start stride : ℕ) where
       (λ lt. let before : i * stride < n * stride = mul-lt-mul_of_pos_right lt pos in
       get_or-set_other (written f out start stride n) (start + n * stride) (start + i * stride) (f n) d (λ e. omega arith) ∙ written_at n i d pos lt room)
       (eq-or-lt_of_le (le_of_suc-le-suc h))
+
+  -- a loop that stores only its first `count` turns' values: a turn that stores, and one that does not
+  pub written_more : (i count : ℕ) → i < count → set (written f out start stride (min i count)) (start + i * stride) (f i) ≡ written f out start stride (min (i + 1) count)
+  unfolding written
+  written_more i count h =
+      let now : min i count ≡ i = min-eq_left (omega arith) in
+      let then : min (i + 1) count ≡ suc i = min-eq_left (omega arith) ∙ add-one i in
+      rw (now, then)
+
+  pub written_done : (i count : ℕ) → count ≤ i → written f out start stride (min i count) ≡ written f out start stride (min (i + 1) count)
+  written_done i count h = ap (written f out start stride) (min-eq_right h ∙ sym (min-eq_right (omega arith)))
 
   -- two functions that agree on what is stored
   pub written_ext : (g : ℕ → A) (n : ℕ) → ((i : ℕ) → i < n → f i ≡ g i) → written f out start stride n ≡ written g out start stride n
