@@ -18,15 +18,13 @@ use lms::QoaLms;
 use scale::Dequant;
 use trial::Heard;
 
-// A slice to be heard: what a weight gains by each value of the row of its scale factor, that row, and the word. The gains stand first:
-// the loops reach them by one sum less.
+// A slice to be heard: the row of its scale factor, and the word. kept: what a weight gains by each value of the row is handed to the
+// loops beside it: with the gains in this struct the row is stored after them, and the loops wait for it (docs/LOOK-BACK.md).
 #[derive(Clone, Copy)]
 struct SliceWord {
-    gains: [[i32; 2]; 8],
     row: [i32; 8],
     word: u64,
     ghost own_row: { row ≡ row_of (scale_of word) },
-    ghost own_gains: { GainsOf gains (row_of (scale_of word)) },
 }
 
 // What a weight gains by each table value of a row.
@@ -87,8 +85,7 @@ impl SliceWord {
     {
         let own = tab.row(word::scale_factor(word));
         let row = own.values;
-        let gains = gains_of(row);
-        SliceWord { word, row, gains }
+        SliceWord { row, word }
     }
 
     // Its i-th sample.
@@ -105,6 +102,7 @@ impl SliceWord {
     // The quiet loop: the samples of a slice from one on to another, up to the first that is to be clamped. A sum of 16 bits is its own clamp.
     fn hear_quiet(
         &self,
+        gains: &[[i32; 2]; 8],
         lms: QoaLms,
         out: &mut [i16],
         start: usize,
@@ -112,6 +110,7 @@ impl SliceWord {
         from: usize,
         to: usize,
     ) -> Part
+        requires gains { GainsOf gains.now (row_of (scale_of self.now.word)) }
         requires small { (WeightsWithin (2 ^ 29 + 17920) lms) × (from ≤ to) × (to ≤ slice_len) }
         requires room { (i : ℕ) → i < to → start + i * stride < length out.old }
         ensures done { result.done ≤ to }
@@ -128,7 +127,7 @@ impl SliceWord {
                 return Part { done: i, lms: left };
             }
             out[start + i * stride] = sum as i16;
-            state = ahead::advance(state.lms, sum, &self.gains[code]);
+            state = ahead::advance(state.lms, sum, &gains[code]);
         }
         let after = state.lms;
         Part {
@@ -140,12 +139,14 @@ impl SliceWord {
     // The quiet loop from a slice's start, four samples at a time: the compiler writes four out, and no number has to move.
     fn hear_fours(
         &self,
+        gains: &[[i32; 2]; 8],
         lms: QoaLms,
         out: &mut [i16],
         start: usize,
         stride: usize,
         fours: usize,
     ) -> Part
+        requires gains { GainsOf gains.now (row_of (scale_of self.now.word)) }
         requires small { (WeightsWithin (2 ^ 29) lms) × (4 * fours ≤ slice_len) }
         requires room { (i : ℕ) → i < 4 * fours → start + i * stride < length out.old }
         ensures done { result.done ≤ 4 * fours }
@@ -154,7 +155,7 @@ impl SliceWord {
         let mut part = Part { done: 0, lms };
         for k in 0..fours {
             let state = part.lms;
-            part = self.hear_quiet(state, out, start, stride, 4 * k, 4 * k + 4);
+            part = self.hear_quiet(gains, state, out, start, stride, 4 * k, 4 * k + 4);
             if part.done < 4 * k + 4 {
                 return part;
             }
@@ -165,6 +166,7 @@ impl SliceWord {
     // The loud loop: every sample of a slice from one on is clamped.
     fn hear_loud(
         &self,
+        gains: &[[i32; 2]; 8],
         lms: QoaLms,
         out: &mut [i16],
         start: usize,
@@ -172,6 +174,7 @@ impl SliceWord {
         from: usize,
         count: usize,
     ) -> QoaLms
+        requires gains { GainsOf gains.now (row_of (scale_of self.now.word)) }
         requires small { (WeightsWithin (2 ^ 29 + 17920) lms) × (from ≤ count) × (count ≤ slice_len) }
         requires room { (i : ℕ) → i < count → start + i * stride < length out.old }
         ensures { (s : QoaLms) (o : List ℤ) → HeardTo self.now.word s o start stride from lms out.old → HeardTo self.now.word s o start stride count result out.new }
@@ -183,7 +186,7 @@ impl SliceWord {
             let value = self.row[code];
             let sample = ahead::clamped_ahead(state, value);
             out[start + i * stride] = sample as i16;
-            state = ahead::advance(state.lms, sample, &self.gains[code]);
+            state = ahead::advance(state.lms, sample, &gains[code]);
             rest = drop_codes(rest, 1);
         }
         state.lms
@@ -192,22 +195,24 @@ impl SliceWord {
     // The first `count` samples of a slice, stored at start, start + stride, ..: by the quiet loop as far as it goes, then by the loud one.
     fn hear_stored(
         &self,
+        gains: &[[i32; 2]; 8],
         lms: QoaLms,
         out: &mut [i16],
         start: usize,
         stride: usize,
         count: usize,
     ) -> QoaLms
+        requires gains { GainsOf gains.now (row_of (scale_of self.now.word)) }
         requires small { (WeightsWithin (2 ^ 29) lms) × (count ≤ slice_len) }
         requires room { (i : ℕ) → i < count → start + i * stride < length out.old }
         ensures state { result ≡ state_after self.now.word lms count }
         ensures samples { out.new ≡ written (sample_at self.now.word lms) out.old start stride count }
     {
         let fours = fours_to_try(lms, count);
-        let part = self.hear_fours(lms, out, start, stride, fours);
+        let part = self.hear_fours(gains, lms, out, start, stride, fours);
         let done = part.done;
         let state = part.lms;
-        self.hear_loud(state, out, start, stride, done, count)
+        self.hear_loud(gains, state, out, start, stride, done, count)
     }
 
     // The samples of a slice from one on, heard and not stored, for the predictor's sake.
@@ -241,6 +246,8 @@ pub fn decode_slice(
     ensures samples { out.new ≡ written (sample_at word lms) out.old start stride count }
 {
     let slice = SliceWord::new(tab, word);
-    let state = slice.hear_stored(lms, out, start, stride, count);
+    let row = slice.row;
+    let gains = gains_of(row);
+    let state = slice.hear_stored(&gains, lms, out, start, stride, count);
     slice.hear_rest(state, count)
 }

@@ -19,6 +19,7 @@ loop-k-init c = (omega arith, refl, (refl, refl))
 pub hear_quiet-part-requires : goal.hear_quiet-part-requires
 hear_quiet-part-requires c =
     let so_far = c.loop-k.invariant.2 in record {
+      gains = c.requires.gains;
       small = (rw so_far.0 (within_more (omega arith) (state_within c.args.self.now.word c.requires.small.0 (4 * c.loop-k.k))), omega arith, omega arith);
       room = λ i h. rw (so_far.1, length_written) (c.requires.room i (omega arith));
     }

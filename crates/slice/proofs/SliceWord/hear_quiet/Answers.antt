@@ -66,13 +66,13 @@ room c = c.requires.room c.loop-i.i (omega arith)
 
 pub advance-state-requires : goal.advance-state-requires
 advance-state-requires c =
-    (within_more (omega arith) c.loop-i.invariant.3, small_there c.args.self.now.word c.loop-i.i (code_is (goal.at.advance-state-requires c).After-code-code) c.args.self.now.gains c.args.self.now.own_gains)
+    (within_more (omega arith) c.loop-i.invariant.3, small_there c.args.self.now.word c.loop-i.i (code_is (goal.at.advance-state-requires c).After-code-code) c.args.gains.now c.requires.gains)
 
 -- the predictor after the turn
 next_is : (c : After-advance-state) → c.code-code.result ≡ code_of c.args.self.now.word c.loop-i.i → SFits w16 (reread w32 c.sum_ahead-sum.result) →
     c.advance-state.result.lms ≡ updated c.loop-i.state.lms (reread w16 (reread w32 c.sum_ahead-sum.result)) (residual_at c.args.self.now.word c.loop-i.i)
 next_is c code fits =
-    let gains = gains_there c.args.self.now.word c.loop-i.i code c.args.self.now.gains c.args.self.now.own_gains in
+    let gains = gains_there c.args.self.now.word c.loop-i.i code c.args.gains.now c.requires.gains in
     c.advance-state.ensures
     ∙ ap₂ (λ (x : ℤ) (g : List ℤ). moved_by c.loop-i.state.lms x g) (sym (to_z-of_z fits)) gains
     ∙ moved_updated c.loop-i.state.lms _ (residual_at c.args.self.now.word c.loop-i.i)
