@@ -33,7 +33,8 @@ pub fn decode_channel(
     ensures state { result ≡ run_after (λ g. be64 bytes.now (at + 8 * (g * channels))) lms (slices_of samples) }
     ensures samples { out.new ≡ written (channel_at (λ g. be64 bytes.now (at + 8 * (g * channels))) lms) out.old start channels samples }
 {
-    // kept: `slices_of` here makes the compiler spill the newest sample in the loops of `slice`, and decoding is 5 percent slower (SPEED.md).
+    // kept: with `slices_of` here the compiler keeps the newest sample in memory in the loops of `slice`, and decoding is up to 7 percent
+    // slower (docs/LOOK-BACK.md).
     let slices = (samples + QOA_SLICE_LEN - 1) / QOA_SLICE_LEN;
     let mut state = lms;
     // kept: the number g says where the slice's word and its samples stand.

@@ -19,7 +19,7 @@ use scale::Dequant;
 use trial::Heard;
 
 // A slice to be heard: the row of its scale factor, and the word. kept: what a weight gains by each value of the row is handed to the
-// loops beside it: with the gains in this struct the row is stored after them, and the loops wait for it (docs/LOOK-BACK.md).
+// loops beside it: with the gains in this struct decoding is up to 4 percent slower, by where the linker puts the loops (docs/LOOK-BACK.md).
 #[derive(Clone, Copy)]
 struct SliceWord {
     row: [i32; 8],
