@@ -3,8 +3,10 @@ ghost use Rattle.std.specs.Prelude.{◌≡◌, ◌+◌, ◌*◌, ◌/◌, ◌%�
 ghost use Rattle.io.specs.Digits.{hex_digit_ascii};
 ghost use Rattle.word.specs.Parts.{written};
 ghost use Rattle.lines.specs.Hex.{digit_of, is_hex, pair_at};
+ghost use Rattle.lines.specs.Output.{Put};
 
 use crate::digit::{hex_digit, hex_value};
+use crate::put::fits;
 
 // Whether a text is the hex of bytes.
 pub fn is_hex(text: &[u8]) -> bool
@@ -53,4 +55,16 @@ pub fn store_hex(out: &mut [u8], at: usize, bytes: &[u8])
     for (i, byte) in bytes.iter().enumerate() {
         store_pair(out, at + i * 2, *byte);
     }
+}
+
+// The digits of bytes.
+#[tactic(auto, using(std::proofs::lemmas::Bool::Decides::nat_tests), unfolding(crate::specs::Output::appended, crate::specs::Output::grown))]
+pub fn put_hex(out: &mut [u8], at: usize, bytes: &[u8]) -> usize
+    ensures { Put (digit_of bytes.now) (length bytes.now * 2) at out.old out.new result }
+{
+    if fits(out.len(), at, bytes.len() * 2) {
+        store_hex(out, at, bytes);
+        return at + bytes.len() * 2;
+    }
+    out.len()
 }

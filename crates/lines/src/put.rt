@@ -1,10 +1,7 @@
 // An output that grows: lent bytes, and how many of them are filled. Where bytes do not fit they are refused, and the output counts as full
 // from then on.
-ghost use Rattle.std.specs.Prelude.{◌≡◌, ◌+◌, ◌*◌, ltb, length};
-ghost use Rattle.lines.specs.Hex.{digit_of};
+ghost use Rattle.std.specs.Prelude.{◌≡◌, ◌+◌, ltb, length};
 ghost use Rattle.lines.specs.Output.{Put, byte_at};
-
-use crate::hex::store_hex;
 
 // Whether there is room for n bytes more.
 pub fn fits(room: usize, at: usize, n: usize) -> bool
@@ -21,18 +18,6 @@ pub fn put_text(out: &mut [u8], at: usize, text: &[u8]) -> usize
     if fits(out.len(), at, text.len()) {
         out[at..at + text.len()].copy_from_slice(text);
         return at + text.len();
-    }
-    out.len()
-}
-
-// The digits of bytes.
-#[tactic(auto, using(std::proofs::lemmas::Bool::Decides::nat_tests), unfolding(crate::specs::Output::appended, crate::specs::Output::grown))]
-pub fn put_hex(out: &mut [u8], at: usize, bytes: &[u8]) -> usize
-    ensures { Put (digit_of bytes.now) (length bytes.now * 2) at out.old out.new result }
-{
-    if fits(out.len(), at, bytes.len() * 2) {
-        store_hex(out, at, bytes);
-        return at + bytes.len() * 2;
     }
     out.len()
 }

@@ -3,7 +3,8 @@ ghost use Rattle.std.specs.Prelude.{◌≡◌, ◌*◌, ◌≤◌, leb, length, 
 ghost use Rattle.lines.specs.Hex.{digit_of};
 ghost use Rattle.lines.specs.Output.{Put, byte_at};
 
-use crate::put::{put_hex, put_text};
+use crate::hex::put_hex;
+use crate::put::put_text;
 
 // The bytes of the place, and how many of them are filled. kept: an array with its length, since a program has no heap.
 #[derive(Drop)]
